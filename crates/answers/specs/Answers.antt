@@ -27,3 +27,8 @@ abbrev pub truthSaid : Truth → Answer Bool
 truthSaid truth.Holds = given true
 truthSaid truth.Fails = given false
 truthSaid (truth.Refused r) = refused (numberOf r)
+
+-- the call did what was asked
+abbrev pub accepted : {A : Type 0} → Answer A → Bool
+accepted (given a) = true
+accepted (refused n) = false

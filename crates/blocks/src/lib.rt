@@ -2,6 +2,7 @@
 // `read_buf`, `to_le_bytes` and `copy_from_slice`. Every call is total: past the slice's end zeros are
 // read and nothing is written. A block goes through an array by value, which compiles to wide moves.
 ghost use mathlib.Core.Path.{_≡_};
+ghost use lib.ListN.{length};
 ghost use Rattle.blocks.specs.Blocks.{le, bytesOf, block, put};
 
 // The number that four bytes are.
@@ -146,7 +147,7 @@ pub fn block_32(s: &[u8], at: usize) -> [u8; 32]
 
 // Puts 4 bytes into s from `at` on; every other byte stays.
 pub fn put_4(s: &mut [u8], at: usize, b: [u8; 4])
-    ensures { λ _. ⌜ now (s .exit) ≡ put (now (s .entry)) at b ⌝ }
+    ensures { λ _. ⌜ (now (s .exit) ≡ put (now (s .entry)) at b) × (length b ≡ 4) ⌝ }
 {
     if s.len() < 4 {
         return;
@@ -163,7 +164,7 @@ pub fn put_4(s: &mut [u8], at: usize, b: [u8; 4])
 
 // Puts 8 bytes into s from `at` on; every other byte stays.
 pub fn put_8(s: &mut [u8], at: usize, b: [u8; 8])
-    ensures { λ _. ⌜ now (s .exit) ≡ put (now (s .entry)) at b ⌝ }
+    ensures { λ _. ⌜ (now (s .exit) ≡ put (now (s .entry)) at b) × (length b ≡ 8) ⌝ }
 {
     if s.len() < 8 {
         return;
@@ -180,7 +181,7 @@ pub fn put_8(s: &mut [u8], at: usize, b: [u8; 8])
 
 // Puts 16 bytes into s from `at` on; every other byte stays.
 pub fn put_16(s: &mut [u8], at: usize, b: [u8; 16])
-    ensures { λ _. ⌜ now (s .exit) ≡ put (now (s .entry)) at b ⌝ }
+    ensures { λ _. ⌜ (now (s .exit) ≡ put (now (s .entry)) at b) × (length b ≡ 16) ⌝ }
 {
     if s.len() < 16 {
         return;
@@ -197,7 +198,7 @@ pub fn put_16(s: &mut [u8], at: usize, b: [u8; 16])
 
 // Puts 32 bytes into s from `at` on; every other byte stays.
 pub fn put_32(s: &mut [u8], at: usize, b: [u8; 32])
-    ensures { λ _. ⌜ now (s .exit) ≡ put (now (s .entry)) at b ⌝ }
+    ensures { λ _. ⌜ (now (s .exit) ≡ put (now (s .entry)) at b) × (length b ≡ 32) ⌝ }
 {
     if s.len() < 32 {
         return;

@@ -1,57 +1,56 @@
+-- The array is zeros with i bytes of the slice over them; the test shows that they are there. Assumes nothing.
+use Prim.Native.Nat.{_-_}
+use native.Mathlib.Omega.{arith}
+use Rattle.blocks.proofs.Copy.{Read, read-start, read-turn, read-end}
+use Rattle.blocks.proofs.Laws.{block-short}
+use mathlib.Core.Path.{sym}
 use Rattle.blocks.proofs.block_32.Statement.{statement}
 use Rattle.blocks.proofs.block_32.Tie as tie
-use Rattle.blocks.proofs.block_32.Reads as reads
-use Rattle.blocks.proofs.block_32.Lts as lts
 
 abbrev Inv-loop : tie.InvT-loop
-Inv-loop s at b₀ i₀ b i = ?
+Inv-loop s at b₀ i₀ b i = Read 32 s at b i
 
 abbrev μ-loop : tie.MeasureT-loop
-μ-loop s at b₀ i₀ b i = ?
+μ-loop s at b₀ i₀ b i = 32 - i
 
--- src/lib.rt:134:9
 returns : tie.Need-returns Inv-loop μ-loop
-returns c = ?
+returns c = sym (block-short 32 (c .before .args .s .now) (c .before .args .at) (omega arith))
 
--- src/lib.rt:136:8
 sub-if2 : tie.Need-sub-if2 Inv-loop μ-loop
-sub-if2 c = ?
+sub-if2 c = omega arith
 
--- src/lib.rt:137:9
 returns-2 : tie.Need-returns-2 Inv-loop μ-loop
-returns-2 c = ?
+returns-2 c = sym (block-short 32 (c .before .before .args .s .now) (c .before .before .args .at) (omega arith))
 
--- src/lib.rt:140:5
 loop-holds : tie.Need-loop-holds Inv-loop μ-loop
-loop-holds c = ?
+loop-holds c = read-start 32 (c .before .before .args .s .now) (c .before .before .args .at)
 
--- src/lib.rt:141:18
 add-b : tie.Need-add-b Inv-loop μ-loop
-add-b c = ?
+add-b c = omega arith
 
--- src/lib.rt:141:16
 shared-slice-read-b : tie.Need-shared-slice-read-b Inv-loop μ-loop
-shared-slice-read-b c = ?
+shared-slice-read-b c = omega arith
 
--- src/lib.rt:141:9
 array-write-b : tie.Need-array-write-b Inv-loop μ-loop
-array-write-b c = ?
+array-write-b c = omega arith
 
--- src/lib.rt:142:9
 add-i : tie.Need-add-i Inv-loop μ-loop
-add-i c = ?
+add-i c = omega arith
 
--- src/lib.rt:140:5
 loop-less : tie.Need-loop-less Inv-loop μ-loop
-loop-less c = ?
+loop-less c = omega arith
 
--- src/lib.rt:140:5
 loop-again : tie.Need-loop-again Inv-loop μ-loop
-loop-again c = ?
+loop-again c =
+    let at-loop = c .before .before in
+    let args = at-loop .before .before .before .args in
+    read-turn 32 (args .s .now) (args .at) (at-loop .loop .b) (at-loop .loop .i) (at-loop .loop .inv) (omega arith) (omega arith)
 
--- src/lib.rt:129:1
 returns-3 : tie.Need-returns-3 Inv-loop μ-loop
-returns-3 c = ?
+returns-3 c =
+    let at-loop = c .before in
+    let args = at-loop .before .before .before .args in
+    read-end 32 (args .s .now) (args .at) (at-loop .loop .b) (at-loop .loop .i) (at-loop .loop .inv) (omega arith) (omega arith)
 
 pub block-32-spec : {M : Type 1} → statement M
 block-32-spec =
