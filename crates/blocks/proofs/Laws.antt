@@ -1,7 +1,7 @@
 -- The laws of little-endian numbers, of a block read, of bytes put and of a tabulated list, over any width. Assumes nothing.
 use mathlib.Core.Path.{_≡_, refl, sym, ap, ap₂, _∙_, subst}
 use mathlib.Core.Bool.{Bool, true, false, cond}
-use mathlib.Core.List.{List, [], _∷_, _++_}
+use mathlib.Core.List.{List, [], _∷_, _++_, append-assoc}
 use mathlib.Core.Logic.{_⊎_, ⊎-elim}
 use Prim.Native.Nat.{ℕ, zero, suc, _+_, _-_, _*_, _/_, _%_, _^_, _≤_, _<_}
 use native.Mathlib.Nat.{mod-one, mod-eq-of-lt, pow-suc, one-le-pow, lt-of-not-le}
@@ -10,7 +10,7 @@ use native.Mathlib.Numerals.{add-one}
 use native.Mathlib.Omega.{arith}
 use lib.Arith.{mod-mul}
 use lib.ListN.{length, getD, take, drop, replicate, length-append, length-drop, length-replicate, getD-replicate, drop-of-length-le, List·getD-append}
-use lib.Seq.{length-take-le, take-length, getD-take, getD-drop, getD-append-add, ext-getD, paste, length-paste}
+use lib.Seq.{take-at, drop-at, drop-drop, length-take-le, take-length, getD-take, getD-drop, getD-append-add, ext-getD, paste, length-paste}
 use borrow.Author.Tests.{le-leb, lt-leb}
 use Rattle.blocks.specs.Blocks.{le, bytesOf, block, put, tabulate}
 
@@ -255,3 +255,18 @@ tabulate-is f n l e h =
     ext-getD 0 l (tabulate f n) (e ∙ sym (tabulate-length f n)) (λ i k.
     let j : i < n = omega arith in
     h i j ∙ sym (tabulate-getD f n i j))
+
+-- bytes put one part after the other are put as one
+pub put-append : (s : List ℕ) (at : ℕ) (bs cs : List ℕ) → at + length bs + length cs ≤ length s → put (put s at bs) (at + length bs) cs ≡ put s at (bs ++ cs)
+put-append s at bs cs h =
+    let long : length (bs ++ cs) ≡ length bs + length cs = length-append bs cs in
+    let head : length (take at s ++ bs) ≡ at + length bs = length-append (take at s) bs ∙ ap (λ (n : ℕ). n + length bs) (length-take-le at s (omega arith)) in
+    let e : at + length bs + length cs ≡ at + length (bs ++ cs) = omega arith in
+    put-fits (put s at bs) (at + length bs) cs (omega (arith, put-length s at bs))
+    ∙ ap (λ (l : List ℕ). take (at + length bs) l ++ cs ++ drop (at + length bs + length cs) l) (put-fits s at bs (omega arith))
+    ∙ ap₂ (λ (p q : List ℕ). p ++ cs ++ q) (take-at (take at s ++ bs) (drop (at + length bs) s) (at + length bs) head)
+    (sym (drop-drop (length cs) (at + length bs) (take at s ++ bs ++ drop (at + length bs) s))
+    ∙ ap (drop (length cs)) (drop-at (take at s ++ bs) (drop (at + length bs) s) (at + length bs) head)
+    ∙ drop-drop (length cs) (at + length bs) s ∙ ap (λ (n : ℕ). drop n s) e)
+    ∙ ap (λ (l : List ℕ). l ++ drop (at + length (bs ++ cs)) s) (append-assoc (take at s) bs cs)
+    ∙ sym (put-fits s at (bs ++ cs) (omega arith))

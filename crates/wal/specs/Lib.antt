@@ -1,0 +1,4 @@
+pub mod Log
+pub mod Reader
+pub mod Writer
+pub mod Run

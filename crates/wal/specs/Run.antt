@@ -1,0 +1,44 @@
+-- 01, 'Writer': "Statements on finished logs are for one slice that nobody else writes from begin to finish, each call given the state
+-- last answered." Such a run, and the log that it makes. Assumes nothing.
+use mathlib.Core.Path.{_≡_}
+use mathlib.Core.Bool.{true, false}
+use mathlib.Core.List.{List, [], _∷_, _++_}
+use Prim.Native.Nat.{ℕ, _+_, _<_, _^_}
+use lib.ListN.{length, getD}
+use Rattle.answers.specs.Answers.{accepted, given}
+use Rattle.page_diff.specs.Diff.{countOf, reserved}
+use Rattle.wal.specs.Log.{Entry, clear, update, recordOf, startRecord, startSize, recordsOf, clearSize, updateSize, endRecord}
+use Rattle.wal.specs.Writer.{beginAnswer, beginLog, beginWriter, clearAnswer, updateAnswer, recordLog, recordWriter}
+use Rattle.wal.specs.declared.Writer.{Writer}
+
+-- an update that a call can hand over: every part has its width, and the diff marks nodes alone
+pub record Handed (id ws : List ℕ) (ns : List (List ℕ)) (elided : List ℕ) (b : ℕ) : Type 0 where
+  pub id-long : length id ≡ 32
+  pub two-words : length ws ≡ 2
+  pub low-word : getD ws 0 0 < 2 ^ 64
+  pub high-word : getD ws 1 0 < 2 ^ 64
+  pub plain : reserved ws ≡ false
+  pub counted : length ns ≡ countOf ws
+  pub rows : (i : ℕ) → i < length ns → length (getD ns i []) ≡ 32
+  pub elided-long : length elided ≡ 8
+  pub bucket : b < 2 ^ 64
+
+-- an entry that a call can hand over
+abbrev pub WellFormed : Entry → Type 0
+WellFormed (clear b) = b < 2 ^ 64
+WellFormed (update id ws ns elided b) = Handed id ws ns elided b
+
+-- accepted calls, one after the other, on a slice that held log₀: the state and the log they leave, and the entries they wrote
+pub data Run (log₀ : List ℕ) (sync : ℕ) : Writer → List ℕ → List Entry → Type 0 where
+  begun : (w : Writer) → accepted (beginAnswer log₀) ≡ true → Run log₀ sync (beginWriter log₀ w) (beginLog log₀ sync) []
+  with-clear : (w : Writer) (log : List ℕ) (es : List Entry) (b : ℕ) → Run log₀ sync w log es → b < 2 ^ 64 → accepted (clearAnswer log w) ≡ true
+      → Run log₀ sync (recordWriter (clearAnswer log w) w clearSize) (recordLog (clearAnswer log w) log w (recordOf (clear b))) (es ++ (clear b ∷ []))
+  with-update : (w : Writer) (log : List ℕ) (es : List Entry) (id ws : List ℕ) (ns : List (List ℕ)) (elided : List ℕ) (b : ℕ)
+      → Run log₀ sync w log es → Handed id ws ns elided b → accepted (updateAnswer log w ws (length ns)) ≡ true
+      → Run log₀ sync (recordWriter (updateAnswer log w ws (length ns)) w (updateSize (length ns)))
+      (recordLog (updateAnswer log w ws (length ns)) log w (recordOf (update id ws ns elided b)))
+      (es ++ (update id ws ns elided b ∷ []))
+
+-- the whole log of some entries: start, records, end, zeros
+abbrev pub logOf : ℕ → List Entry → List ℕ
+logOf sync es = startRecord sync ++ (recordsOf es ++ endRecord (startSize + length (recordsOf es)))
