@@ -20,28 +20,28 @@ use Rattle.answers.specs.declared.Truth.the-variants as truth
 abbrev named : ℕ → Refusal
 named n =
     cond (eqb n 1) TableUnfit
-    (    cond (eqb n 2) LengthUnfit
-    (    cond (eqb n 3) SlotUnfit
-    (    cond (eqb n 4) DiffReserved
-    (    cond (eqb n 5) LogNotPages
-    (    cond (eqb n 6) LogCut
-    (    cond (eqb n 7) NoStart
-    (    cond (eqb n 8) TagUnknown
-    (    cond (eqb n 9) BucketOutside
-    (    cond (eqb n 10) PathCrowded
-    (    cond (eqb n 11) PathClosed
-    (    cond (eqb n 12) WriterNotOpen
-    (    cond (eqb n 13) NoRoom
-    (    cond (eqb n 14) BucketUnfit
-    (    cond (eqb n 15) MarkerLength
-    (    cond (eqb n 16) MarkerMagic
-    (    cond (eqb n 17) MarkerOrder
-    (    cond (eqb n 18) NothingPending
-    (    cond (eqb n 19) WouldShrink
-    (    cond (eqb n 20) PaddingUsed
-    (    cond (eqb n 21) LabelTwice
-    (    cond (eqb n 22) TagWrong
-    (    cond (eqb n 23) EmptyFirst
+    (cond (eqb n 2) LengthUnfit
+    (cond (eqb n 3) SlotUnfit
+    (cond (eqb n 4) DiffReserved
+    (cond (eqb n 5) LogNotPages
+    (cond (eqb n 6) LogCut
+    (cond (eqb n 7) NoStart
+    (cond (eqb n 8) TagUnknown
+    (cond (eqb n 9) BucketOutside
+    (cond (eqb n 10) PathCrowded
+    (cond (eqb n 11) PathClosed
+    (cond (eqb n 12) WriterNotOpen
+    (cond (eqb n 13) NoRoom
+    (cond (eqb n 14) BucketUnfit
+    (cond (eqb n 15) MarkerLength
+    (cond (eqb n 16) MarkerMagic
+    (cond (eqb n 17) MarkerOrder
+    (cond (eqb n 18) NothingPending
+    (cond (eqb n 19) WouldShrink
+    (cond (eqb n 20) PaddingUsed
+    (cond (eqb n 21) LabelTwice
+    (cond (eqb n 22) TagWrong
+    (cond (eqb n 23) EmptyFirst
     (NotReached)))))))))))))))))))))))
 
 named-number : (r : Refusal) → named (numberOf r) ≡ r

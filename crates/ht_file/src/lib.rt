@@ -7,6 +7,7 @@ use answers::Number;
 use answers::Refusal;
 
 pub const PAGE_SIZE: usize = 4096;
+
 pub const MAX_BUCKETS: usize = 1048576;
 
 // Whether a table may have n buckets.

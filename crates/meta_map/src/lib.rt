@@ -12,7 +12,9 @@ use answers::Refusal;
 use answers::Truth;
 
 pub const EMPTY: u8 = 0x00;
+
 pub const TOMBSTONE: u8 = 0x7F;
+
 pub const FULL_MASK: u8 = 0x80;
 
 // The tag of a bucket that holds a page with this hash.
@@ -84,7 +86,7 @@ pub fn full_count(tags: &[u8], n: usize) -> Number
     ensures { λ r. ⌜ numberSaid r ≡ ifTags (now (tags .entry)) n (given (countOf full (now (tags .entry)) n)) ⌝ }
 {
     if ht_file::tags_fit(n, tags.len()) {
-        let mut count: usize = 0;
+        let mut count: u32 = 0;
         let mut i = 0;
         while i < n {
             if FULL_MASK <= tags[i] {

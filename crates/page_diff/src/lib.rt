@@ -13,7 +13,9 @@ use answers::Refusal;
 use answers::Truth;
 
 pub const NODES_PER_PAGE: usize = 126;
+
 const CLEAR_BIT: u64 = 0x8000_0000_0000_0000;
+
 const RESERVED: u64 = 0x4000_0000_0000_0000;
 
 // Bit i of words[w] marks slot 64w + i. Slots 0 to 125 are a page's nodes, 126 is never used, and 127
@@ -72,7 +74,22 @@ pub fn as_bytes(d: Diff) -> [u8; 16]
     let a = blocks::u64_bytes(d.words[0]);
     let b = blocks::u64_bytes(d.words[1]);
     [
-        a[0], a[1], a[2], a[3], a[4], a[5], a[6], a[7], b[0], b[1], b[2], b[3], b[4], b[5], b[6], b[7],
+        a[0],
+        a[1],
+        a[2],
+        a[3],
+        a[4],
+        a[5],
+        a[6],
+        a[7],
+        b[0],
+        b[1],
+        b[2],
+        b[3],
+        b[4],
+        b[5],
+        b[6],
+        b[7],
     ]
 }
 

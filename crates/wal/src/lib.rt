@@ -2,15 +2,20 @@
 // writer's state. Reading is in wal_read, writing in wal_write; all three cite specs/ here.
 
 pub const WAL_ENTRY_TAG_START: u8 = 1;
+
 pub const WAL_ENTRY_TAG_END: u8 = 2;
+
 pub const WAL_ENTRY_TAG_CLEAR: u8 = 3;
+
 pub const WAL_ENTRY_TAG_UPDATE: u8 = 4;
 
 pub const PAGE_SIZE: usize = 4096;
 
 // The bytes of a start and of a clear, and those of an update without its nodes.
 pub const START_SIZE: usize = 5;
+
 pub const CLEAR_SIZE: usize = 9;
+
 pub const UPDATE_SIZE: usize = 65;
 
 // Where a writer stands: not begun, open at a position, or finished with a length. It goes by value;

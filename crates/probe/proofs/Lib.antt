@@ -1,0 +1,8 @@
+pub mod Visits
+pub mod Walk
+pub mod Tests
+pub mod Bytes
+pub mod Allocating
+pub mod Promises
+pub mod OneAnswer
+pub mod Examples

@@ -1,0 +1,170 @@
+-- 01, 'Path': the visits of a hash, and what probing on, lookup and allocation answer. Assumes nothing.
+use mathlib.Core.Path.{_≡_}
+use mathlib.Core.Bool.{Bool, true, false, cond, _&&_, _||_}
+use mathlib.Core.List.{List, [], _∷_}
+use Prim.Native.Nat.{ℕ, zero, suc, _+_, _*_, _/_, _%_}
+use lib.Dec.{leb, ltb, eqb}
+use lib.ListN.{length, getD, set, take, drop}
+use Rattle.answers.specs.Answers.{Answer, given, refused}
+use Rattle.answers.specs.Refusals.{numberOf}
+use Rattle.ht_file.specs.Places.{imageFits, pageStart}
+use Rattle.meta_map.specs.Tags.{empty, tombstone, kindOf, isKind, fullTag, one, ifTags}
+use Rattle.probe.specs.declared.ProbeSequence.{ProbeSequence}
+use Rattle.probe.specs.declared.Probed.{Probed}
+use Rattle.probe.specs.declared.Found.{Found}
+use Rattle.probe.specs.declared.Allocated.{Allocated}
+use Rattle.probe.specs.declared.Probed.the-variants as probed
+use Rattle.probe.specs.declared.Found.the-variants as found
+use Rattle.probe.specs.declared.Allocated.the-variants as allocated
+
+-- "visit k, from 0, is at (hash + k(k+1)/2) mod n"
+unfoldable pub visit : ℕ → ℕ → ℕ → ℕ
+visit n h k = (h + k * (k + 1) / 2) % n
+
+-- the buckets of the m visits from visit k on
+unfoldable pub visits : ℕ → ℕ → ℕ → ℕ → List ℕ
+unfolding visit
+visits n h k zero = []
+visits n h k (suc m) = visit n h k ∷ visits n h (suc k) m
+
+-- "It repeats after 2n visits": all that a walk from visit k on can meet
+abbrev pub pathFrom : ℕ → ℕ → ℕ → List ℕ
+pathFrom n h k = visits n h k (2 * n)
+
+-- tests of a tag: "A visit is a hit if the tag there is the hash's full tag"
+abbrev pub isEmpty : ℕ → Bool
+isEmpty t = isKind empty (kindOf t)
+
+abbrev pub isTombstone : ℕ → Bool
+isTombstone t = isKind tombstone (kindOf t)
+
+abbrev pub isFree : ℕ → Bool
+isFree t = isEmpty t || isTombstone t
+
+abbrev pub isHit : ℕ → ℕ → Bool
+isHit h t = eqb t (fullTag h)
+
+-- where a walk stops: a bucket and the number of its visit; or nowhere
+pub data Stop : Type 0 where
+  stopAt : ℕ → ℕ → Stop
+  nowhere : Stop
+
+-- the first of the visits whose bucket passes the test, where the first of all is visit k
+unfoldable pub firstStop : (ℕ → Bool) → ℕ → List ℕ → Stop
+firstStop p k [] = nowhere
+firstStop p k (b ∷ bs) = cond (p b) (stopAt b k) (firstStop p (suc k) bs)
+
+-- how many of the visits are hits; a bucket met twice counts twice
+unfoldable pub hits : List ℕ → ℕ → List ℕ → ℕ
+hits ts h [] = 0
+hits ts h (b ∷ bs) = one (isHit h (getD ts b 0)) + hits ts h bs
+
+-- "Probing on from visit k, taken mod 2n, gives the first empty, tombstone or hit among the 2n visits from there, else closed"
+pub data Probe : Type 0 where
+  emptyAt tombstoneAt hitAt : ℕ → ℕ → Probe
+  closed : Probe
+
+abbrev pub stopsProbe : List ℕ → ℕ → ℕ → Bool
+stopsProbe ts h b = isFree (getD ts b 0) || isHit h (getD ts b 0)
+
+abbrev pub probeSaw : List ℕ → Stop → Probe
+probeSaw ts (stopAt b k) =
+    cond (isEmpty (getD ts b 0)) (emptyAt b k) (cond (isTombstone (getD ts b 0)) (tombstoneAt b k) (hitAt b k))
+probeSaw ts nowhere = closed
+
+unfoldable pub probing : List ℕ → ℕ → ℕ → ℕ → Probe
+unfolding visits firstStop
+probing ts n h k = probeSaw ts (firstStop (stopsProbe ts h) (k % (2 * n)) (pathFrom n h (k % (2 * n))))
+
+abbrev pub probeAnswer : List ℕ → ℕ → ℕ → ℕ → Answer Probe
+probeAnswer ts n h k = ifTags ts n (given (probing ts n h k))
+
+-- the same bytes
+unfoldable pub sameBytes : List ℕ → List ℕ → Bool
+sameBytes [] [] = true
+sameBytes [] (y ∷ ys) = false
+sameBytes (x ∷ xs) [] = false
+sameBytes (x ∷ xs) (y ∷ ys) = eqb x y && sameBytes xs ys
+
+-- the last 32 bytes of a bucket's page
+abbrev pub pageEnd : List ℕ → ℕ → ℕ → List ℕ
+pageEnd img n b = take 32 (drop (pageStart n b + 4064) img)
+
+-- a hit whose page ends in the id
+abbrev pub holds : List ℕ → ℕ → ℕ → List ℕ → ℕ → Bool
+holds img n h id b = isHit h (getD img b 0) && sameBytes (pageEnd img n b) id
+
+-- "Lookup answers the bucket of the first hit whose page ends in the id, if no empty visit precedes it; absent at an empty visit; closed if
+-- 2n visits give neither"
+pub data Sought : Type 0 where
+  foundAt : ℕ → Sought
+  absent unreached : Sought
+
+abbrev pub stopsLookup : List ℕ → ℕ → ℕ → List ℕ → ℕ → Bool
+stopsLookup img n h id b = isEmpty (getD img b 0) || holds img n h id b
+
+abbrev pub lookupSaw : List ℕ → Stop → Sought
+lookupSaw img (stopAt b k) = cond (isEmpty (getD img b 0)) absent (foundAt b)
+lookupSaw img nowhere = unreached
+
+unfoldable pub lookingUp : List ℕ → ℕ → ℕ → List ℕ → Sought
+unfolding visits firstStop sameBytes
+lookingUp img n h id = lookupSaw img (firstStop (stopsLookup img n h id) 0 (pathFrom n h 0))
+
+abbrev pub lookupAnswer : List ℕ → ℕ → ℕ → List ℕ → Answer Sought
+lookupAnswer img n h id = cond (imageFits n (length img)) (given (lookingUp img n h id)) (refused 1)
+
+-- "Allocation takes the first visit that is empty or a tombstone, if at most 9,998 hits come before it [..] Otherwise 10 if the path has a
+-- hit, 11 if it has none"; the limit is the first argument
+abbrev pub freeAt : List ℕ → ℕ → Bool
+freeAt ts b = isFree (getD ts b 0)
+
+abbrev pub freeStop : List ℕ → ℕ → ℕ → Stop
+freeStop ts n h = firstStop (freeAt ts) 0 (pathFrom n h 0)
+
+abbrev pub noBucket : List ℕ → ℕ → ℕ → Answer ℕ
+noBucket ts n h = cond (ltb 0 (hits ts h (pathFrom n h 0))) (refused 10) (refused 11)
+
+abbrev pub allocationSaw : ℕ → List ℕ → ℕ → ℕ → Stop → Answer ℕ
+allocationSaw limit ts n h (stopAt b k) = cond (leb (hits ts h (visits n h 0 k)) limit) (given b) (noBucket ts n h)
+allocationSaw limit ts n h nowhere = noBucket ts n h
+
+unfoldable pub allocating : ℕ → List ℕ → ℕ → ℕ → Answer ℕ
+unfolding visits firstStop hits
+allocating limit ts n h = allocationSaw limit ts n h (freeStop ts n h)
+
+abbrev pub hitLimit : ℕ
+hitLimit = 9998
+
+abbrev pub allocateAnswer : ℕ → List ℕ → ℕ → ℕ → Answer ℕ
+allocateAnswer limit ts n h = ifTags ts n (allocating limit ts n h)
+
+-- "and writes the full tag": the tags afterwards
+abbrev pub tagsAfter : Answer ℕ → List ℕ → ℕ → List ℕ
+tagsAfter (given b) ts h = set ts b (fullTag h)
+tagsAfter (refused m) ts h = ts
+
+abbrev pub allocatedTags : ℕ → List ℕ → ℕ → ℕ → List ℕ
+allocatedTags limit ts n h = tagsAfter (allocateAnswer limit ts n h) ts h
+
+-- what each case of the code's answers says
+abbrev pub probedSaid : Probed → Answer Probe
+probedSaid (probed.Empty b k) = given (emptyAt b k)
+probedSaid (probed.Tombstone b k) = given (tombstoneAt b k)
+probedSaid (probed.PossibleHit b k) = given (hitAt b k)
+probedSaid probed.Closed = given closed
+probedSaid (probed.Refused r) = refused (numberOf r)
+
+abbrev pub foundSaid : Found → Answer Sought
+foundSaid (found.At b) = given (foundAt b)
+foundSaid found.Absent = given absent
+foundSaid found.Closed = given unreached
+foundSaid (found.Refused r) = refused (numberOf r)
+
+abbrev pub allocatedSaid : Allocated → Answer ℕ
+allocatedSaid (allocated.At b) = given b
+allocatedSaid (allocated.Refused r) = refused (numberOf r)
+
+-- a walk's state stands at its visit, and its step leads to the next one
+abbrev pub stands : ℕ → ProbeSequence → Type 0
+stands n p = (p .bucket ≡ visit n (p .hash) (p .visit)) × (p .step ≡ (p .visit + 1) % n)

@@ -1,0 +1,83 @@
+-- Demand 3's last sentence: a log that our writer finished, its buckets inside the table, is accepted under its own sync number with one
+-- hash per update; and the places where replay leaves the image. Assumes nothing.
+use mathlib.Core.Path.{_≡_, refl, sym, ap, ap₂, _∙_, subst}
+use mathlib.Core.Bool.{Bool, true, false, cond}
+use mathlib.Core.List.{List, [], _∷_, _++_}
+use Prim.Native.Nat.{ℕ, _+_, _^_, _<_}
+use native.Mathlib.Omega.{arith}
+use lib.Dec.{eqb}
+use lib.ListN.{length, getD, take, replicate}
+use borrow.Author.Tests.{eq-eqb, ne-eqb}
+use Rattle.answers.specs.Answers.{Answer, given, refused}
+use Rattle.ht_file.specs.Places.{imageFits}
+use Rattle.wal.specs.Log.{Entry, clear, recordsOf, startSize, finishedLength}
+use Rattle.wal.specs.Reader.{startOf, Reading, readLog}
+use Rattle.wal.specs.Writer.{finishLog}
+use Rattle.wal.specs.Run.{Run, logOf}
+use Rattle.wal.specs.declared.Writer.{Writer}
+use Rattle.wal.proofs.RoundTrip.{AllWellFormed, log-length, start-back, entries-back, Made, run-made, finished-log}
+use Rattle.recover.specs.Places.{withHashes, replayed}
+use Rattle.recover.specs.Replay.{Did, nothing, stale, applied, allInside, updatesIn, afterEntries, checkAnswer, afterStart, replayAnswer, replayImage, imageBy, stepsOf, Stopped}
+use Rattle.recover.proofs.Demand3.{stopped-only, stops-do-no-harm}
+
+module _ (n sync : ℕ) (es : List Entry) (all : AllWellFormed es) (small : sync < 2 ^ 32) (inside : allInside n es ≡ true) where
+  -- the check of its whole log
+  pub check-accepts : (hashes : ℕ) → hashes ≡ updatesIn es → checkAnswer n (logOf sync es) hashes ≡ given tt
+  unfolding checkAnswer
+  check-accepts hashes e =
+      ap (λ (r : Reading). cond (allInside n (r .entries)) (afterEntries (r .stop) (cond (eqb hashes (updatesIn (r .entries))) (given tt) (refused 2))) (refused 9)) (entries-back sync es all)
+      ∙ ap (λ (t : Bool). cond t (cond (eqb hashes (updatesIn es)) (given tt) (refused 2)) (refused 9)) inside
+      ∙ ap (λ (t : Bool). cond t (given tt) (refused 2)) (eq-eqb hashes (updatesIn es) e)
+
+  not-empty : length (logOf sync es) ≡ 0 → ⊥
+  not-empty z = omega (arith, log-length sync es)
+
+  -- 5. acceptance, for the log of any such entries
+  pub replay-accepts : (table hashes : List ℕ) → imageFits n (length table) ≡ true → length hashes ≡ updatesIn es → replayAnswer n table (logOf sync es) sync hashes ≡ given applied
+  unfolding replayAnswer
+  replay-accepts table hashes fits e =
+      let log : List ℕ = logOf sync es in
+      ap (λ (t : Bool). cond t (cond (eqb (length log) 0) (given nothing) (afterStart (startOf log) sync (checkAnswer n log (length hashes)))) (refused 1)) fits
+      ∙ ap (λ (t : Bool). cond t (given nothing) (afterStart (startOf log) sync (checkAnswer n log (length hashes)))) (ne-eqb (length log) 0 not-empty)
+      ∙ ap₂ (λ (s : Answer ℕ) (c : Answer (Unit {0})). afterStart s sync c) (start-back sync es small) (check-accepts (length hashes) e)
+      ∙ ap (λ (t : Bool). cond t (given applied) (given stale)) (eq-eqb sync sync refl)
+
+  -- the image is then replay's, of exactly the entries written
+  pub replay-applies : (table hashes : List ℕ) → imageFits n (length table) ≡ true → length hashes ≡ updatesIn es → replayImage n table (logOf sync es) sync hashes ≡ replayed n (withHashes es hashes) table
+  replay-applies table hashes fits e =
+      ap (λ (a : Answer Did). imageBy a table (replayed n (stepsOf (logOf sync es) hashes) table)) (replay-accepts table hashes fits e)
+      ∙ ap (λ (r : Reading). replayed n (withHashes (r .entries) hashes) table) (entries-back sync es all)
+
+-- 5. acceptance, for a log that accepted calls wrote and finish closed
+pub finished-accepted : (log₀ : List ℕ) (sync : ℕ) (w : Writer) (log : List ℕ) (es : List Entry) → Run log₀ sync w log es → sync < 2 ^ 32 → (n : ℕ) (table hashes : List ℕ) → allInside n es ≡ true → imageFits n (length table) ≡ true
+    → length hashes ≡ updatesIn es → replayAnswer n table (take (finishedLength (startSize + length (recordsOf es))) (finishLog log w)) sync hashes ≡ given applied
+finished-accepted log₀ sync w log es run small n table hashes inside fits e =
+    ap (λ (l : List ℕ). replayAnswer n table l sync hashes) (finished-log log₀ sync w log es run)
+    ∙ replay-accepts n sync es (run-made log₀ sync run .all) small inside table hashes fits e
+
+-- the answer looks at the image's length alone, so it is the same for a table and for what stops leave of it
+pub answer-by-length : (n : ℕ) (a b log : List ℕ) (sync : ℕ) (hashes : List ℕ) → length a ≡ length b → replayAnswer n a log sync hashes ≡ replayAnswer n b log sync hashes
+unfolding replayAnswer
+answer-by-length n a b log sync hashes e =
+    ap (λ (l : ℕ). cond (imageFits n l) (cond (eqb (length log) 0) (given nothing) (afterStart (startOf log) sync (checkAnswer n log (length hashes)))) (refused 1)) e
+
+-- 6. everything but `applied` leaves the image
+pub nothing-leaves : (n : ℕ) (image log : List ℕ) (sync : ℕ) (hashes : List ℕ) → replayAnswer n image log sync hashes ≡ given nothing → replayImage n image log sync hashes ≡ image
+nothing-leaves n image log sync hashes e = ap (λ (a : Answer Did). imageBy a image (replayed n (stepsOf log hashes) image)) e
+
+pub stale-leaves : (n : ℕ) (image log : List ℕ) (sync : ℕ) (hashes : List ℕ) → replayAnswer n image log sync hashes ≡ given stale → replayImage n image log sync hashes ≡ image
+stale-leaves n image log sync hashes e = ap (λ (a : Answer Did). imageBy a image (replayed n (stepsOf log hashes) image)) e
+
+pub refusal-leaves : (n : ℕ) (image log : List ℕ) (sync : ℕ) (hashes : List ℕ) (k : ℕ) → replayAnswer n image log sync hashes ≡ refused k → replayImage n image log sync hashes ≡ image
+refusal-leaves n image log sync hashes k e = ap (λ (a : Answer Did). imageBy a image (replayed n (stepsOf log hashes) image)) e
+
+-- Demand 3 as one statement: a log accepted for a table; an image that stops left of it; the same sync number and hashes
+module _ (n : ℕ) (table log : List ℕ) (sync : ℕ) (hashes : List ℕ) (ok : replayAnswer n table log sync hashes ≡ given applied) where
+  pub stopped-accepted : {image : List ℕ} → Stopped n (stepsOf log hashes) table image → replayAnswer n image log sync hashes ≡ given applied
+  stopped-accepted {image} s = answer-by-length n image table log sync hashes (stopped-only n (stepsOf log hashes) table s .long) ∙ ok
+
+  pub demand-3 : {image : List ℕ} → Stopped n (stepsOf log hashes) table image → replayImage n image log sync hashes ≡ replayImage n table log sync hashes
+  demand-3 {image} s =
+      ap (λ (a : Answer Did). imageBy a image (replayed n (stepsOf log hashes) image)) (stopped-accepted s)
+      ∙ stops-do-no-harm n (stepsOf log hashes) table s
+      ∙ sym (ap (λ (a : Answer Did). imageBy a table (replayed n (stepsOf log hashes) table)) ok)

@@ -1,0 +1,9 @@
+pub mod Demand3
+pub mod Acceptance
+pub mod Stops
+pub mod Parts
+pub mod Pages
+pub mod Checks
+pub mod Steps
+pub mod Runs
+pub mod Replays

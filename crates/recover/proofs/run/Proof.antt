@@ -1,0 +1,120 @@
+-- What is left to apply ends where the whole does; the log was checked, so no step refuses. Assumes nothing.
+use Rattle.recover.proofs.Runs.{RunState, run-start, after-clear, after-update, at-the-end}
+use Rattle.recover.specs.Replay.{cleared, updated, steppedSaid, stepAnswer, stepImage}
+use Rattle.recover.specs.Places.{replayed}
+use Rattle.ht_file.specs.Places.{imageFits}
+use Rattle.answers.specs.Answers.{given}
+use lib.ListN.{length, getD}
+use borrow.Author.Needs.{needs}
+use native.Mathlib.Omega.{arith}
+use Prim.Native.Nat.{ℕ, _+_, _-_, _≤_, _<_}
+use mathlib.Core.List.{List}
+use mathlib.Core.Bool.{true}
+use mathlib.Core.Path.{_≡_, refl, sym, ap, _∙_, subst}
+use Rattle.recover.proofs.run.Statement.{statement}
+use Rattle.recover.proofs.run.Tie as tie
+
+abbrev Inv-loop : tie.InvT-loop
+Inv-loop image₀ n log hashes at₀ used₀ image at used = RunState n log hashes image₀ image at used
+
+abbrev μ-loop : tie.MeasureT-loop
+μ-loop image₀ n log hashes at₀ used₀ image at used = length log - at
+
+-- the image is still the table's
+fits : (c : tie.At-loop Inv-loop μ-loop) → imageFits (c .before .before .before .before .args .n) (length (c .loop .image)) ≡ true
+fits c = let start = c .before .before .before .before in ap (imageFits (start .args .n)) (c .loop .inv .long) ∙ start .pre .0
+
+-- the step's image, with the hash that is lent for it
+image-is : (c : tie.After-apply-entry Inv-loop μ-loop)
+    → let at-loop = c .before .before .before in
+    let args = at-loop .before .before .before .before .args in
+    c .apply-entry .last .0 ≡ stepImage (args .n) (at-loop .loop .image) (args .log .now) (at-loop .loop .at) (getD (args .hashes .now) (at-loop .loop .used) 0)
+image-is c =
+    let at-loop = c .before .before .before in
+    let args = at-loop .before .before .before .before .args in
+    c .apply-entry .ensures .1 ∙ ap (stepImage (args .n) (at-loop .loop .image) (args .log .now) (at-loop .loop .at)) (c .before .before .hash-at .ensures)
+
+-- a clear was applied
+after-cleared : (c : tie.After-known-told Inv-loop μ-loop)
+    → let called = c .before .before .before .before .before in
+    let at-loop = called .before .before .before in
+    let args = at-loop .before .before .before .before .args in
+    (at-loop .loop .at + 9 ≤ c .before .step .given .0 .0) × (c .before .step .given .0 .0 ≤ length (args .log .now))
+    × RunState (args .n) (args .log .now) (args .hashes .now) (args .image .now) (called .apply-entry .last .0) (c .before .step .given .0 .0) (at-loop .loop .used)
+after-cleared c =
+    let called = c .before .before .before .before .before in
+    let at-loop = called .before .before .before in
+    let args = at-loop .before .before .before .before .args in
+    let s = after-clear (args .n) (args .log .now) (args .hashes .now) (args .image .now) (at-loop .loop .image) (at-loop .loop .at) (at-loop .loop .used) (at-loop .loop .inv) (fits at-loop) (c .before .step .given .0 .0)
+    (sym (ap steppedSaid (c .before .step .given .1)) ∙ called .apply-entry .ensures .0) in
+    (s .0, s .1, subst (λ (l : List ℕ). RunState (args .n) (args .log .now) (args .hashes .now) (args .image .now) l (c .before .step .given .0 .0) (at-loop .loop .used)) (sym (image-is called)) (s .2))
+
+-- an update was applied
+after-updated : (c : tie.After-known-told2 Inv-loop μ-loop)
+    → let called = c .before .before .before .before .before .before in
+    let at-loop = called .before .before .before in
+    let args = at-loop .before .before .before .before .args in
+    (at-loop .loop .at + 9 ≤ c .before .step2 .given .0 .0) × (c .before .step2 .given .0 .0 ≤ length (args .log .now))
+    × RunState (args .n) (args .log .now) (args .hashes .now) (args .image .now) (called .apply-entry .last .0) (c .before .step2 .given .0 .0) (at-loop .loop .used + 1)
+after-updated c =
+    let called = c .before .before .before .before .before .before in
+    let at-loop = called .before .before .before in
+    let args = at-loop .before .before .before .before .args in
+    let s = after-update (args .n) (args .log .now) (args .hashes .now) (args .image .now) (at-loop .loop .image) (at-loop .loop .at) (at-loop .loop .used) (at-loop .loop .inv) (fits at-loop) (c .before .step2 .given .0 .0)
+    (sym (ap steppedSaid (c .before .step2 .given .1)) ∙ called .apply-entry .ensures .0) in
+    (s .0, s .1, subst (λ (l : List ℕ). RunState (args .n) (args .log .now) (args .hashes .now) (args .image .now) l (c .before .step2 .given .0 .0) (at-loop .loop .used + 1)) (sym (image-is called)) (s .2))
+
+loop-holds : tie.Need-loop-holds Inv-loop μ-loop
+loop-holds c = let start = c .before .before .before in run-start (start .args .n) (start .args .log .now) (start .args .hashes .now) (start .args .image .now) (start .pre .1)
+
+hash-at-requires : tie.Need-hash-at-requires Inv-loop μ-loop
+hash-at-requires c κs = tt
+
+apply-entry-requires : tie.Need-apply-entry-requires Inv-loop μ-loop
+apply-entry-requires c κs = tt
+
+enum-known-step : tie.Need-enum-known-step Inv-loop μ-loop
+enum-known-step c = search needs
+
+loop-less : tie.Need-loop-less Inv-loop μ-loop
+loop-less c = let s = after-cleared c in omega (arith, s .0, s .1)
+
+loop-again : tie.Need-loop-again Inv-loop μ-loop
+loop-again c = after-cleared c .2
+
+enum-known-step-2 : tie.Need-enum-known-step-2 Inv-loop μ-loop
+enum-known-step-2 c = search needs
+
+same-length : tie.Need-same-length Inv-loop μ-loop
+same-length c = let called = c .before .before .before .before in let at-loop = called .before .before .before in called .apply-entry .kept .0 ∙ at-loop .loop .inv .long
+
+returns : tie.Need-returns Inv-loop μ-loop
+returns c = let called = c .before .before .before .before in let at-loop = called .before .before .before in let args = at-loop .before .before .before .before .args in image-is called ∙ at-the-end (args .n) (args .log .now) (args .hashes .now) (args .image .now) (at-loop .loop .image) (at-loop .loop .at) (at-loop .loop .used) (at-loop .loop .inv) (fits at-loop) (called .apply-entry .result) (called .apply-entry .ensures .0) (c .before .match .keys2) (c .match2 .keys2)
+
+add-used : tie.Need-add-used Inv-loop μ-loop
+add-used c = let s = after-updated c in omega (arith, s .0, s .1, s .2 .few)
+
+loop-less-2 : tie.Need-loop-less-2 Inv-loop μ-loop
+loop-less-2 c = let s = after-updated c in omega (arith, s .0, s .1)
+
+loop-again-2 : tie.Need-loop-again-2 Inv-loop μ-loop
+loop-again-2 c = after-updated c .2
+
+pub run-spec : {M : Type 1} → statement M
+run-spec =
+    tie.close
+    (tie.spec
+    Inv-loop
+    μ-loop
+    loop-holds
+    hash-at-requires
+    apply-entry-requires
+    enum-known-step
+    loop-less
+    loop-again
+    enum-known-step-2
+    same-length
+    returns
+    add-used
+    loop-less-2
+    loop-again-2)

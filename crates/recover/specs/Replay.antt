@@ -1,0 +1,144 @@
+-- 01, 'Replay' and its order: what replay answers, and the image it leaves. Assumes nothing.
+use mathlib.Core.Path.{_≡_}
+use mathlib.Core.Logic.{_⊎_}
+use mathlib.Core.Bool.{Bool, true, false, cond, _&&_}
+use mathlib.Core.List.{List, [], _∷_}
+use Prim.Native.Nat.{ℕ, _+_, _<_}
+use lib.Dec.{ltb, eqb}
+use lib.ListN.{length, getD, take}
+use Rattle.answers.specs.Answers.{Answer, given, refused, accepted}
+use Rattle.answers.specs.Refusals.{numberOf}
+use Rattle.ht_file.specs.Places.{imageFits}
+use Rattle.wal.specs.Log.{Entry, clear, update}
+use Rattle.wal.specs.Reader.{startOf, Next, next, ended, stopped, nextAt, Reading, readLog}
+use Rattle.wal_read.specs.Head.{Seen, aClear, anUpdate, theEnd, aRefusal}
+use Rattle.recover.specs.Places.{Step, withHashes, replayed, stepped, namedIn}
+use Rattle.recover.specs.declared.Stepped.{Stepped}
+use Rattle.recover.specs.declared.Recovered.{Recovered}
+use Rattle.recover.specs.declared.Stepped.the-variants as S
+use Rattle.recover.specs.declared.Recovered.the-variants as R
+
+-- what replay does where it does not refuse
+pub data Did : Type 0 where
+  nothing stale applied : Did
+
+abbrev pub bucketOf : Entry → ℕ
+bucketOf (clear b) = b
+bucketOf (update id ws ns el b) = b
+
+-- refusal 9: "bucket at or above n"
+unfoldable pub allInside : ℕ → List Entry → Bool
+allInside n [] = true
+allInside n (e ∷ es) = ltb (bucketOf e) n && allInside n es
+
+abbrev pub oneUpdate : Entry → ℕ
+oneUpdate (clear b) = 0
+oneUpdate (update id ws ns el b) = 1
+
+unfoldable pub updatesIn : List Entry → ℕ
+updatesIn [] = 0
+updatesIn (e ∷ es) = oneUpdate e + updatesIn es
+
+-- "the first bad entry (in an update: 6 up to the diff, 4, 6, 9), last the hash count 2"
+abbrev pub afterEntries : Answer (Unit {0}) → Answer (Unit {0}) → Answer (Unit {0})
+afterEntries (given u) last = last
+afterEntries (refused n) last = refused n
+
+-- the check of a whole log for a table of n buckets, with so many hashes
+unfoldable pub checkAnswer : ℕ → List ℕ → ℕ → Answer (Unit {0})
+checkAnswer n log hashes =
+    cond (allInside n (readLog log .entries))
+    (afterEntries (readLog log .stop) (cond (eqb hashes (updatesIn (readLog log .entries))) (given tt) (refused 2)))
+    (refused 9)
+
+-- "another sync number answers stale, later entries unread"
+abbrev pub afterStart : Answer ℕ → ℕ → Answer (Unit {0}) → Answer Did
+afterStart (refused n) sync check = refused n
+afterStart (given s) sync (given u) = cond (eqb s sync) (given applied) (given stale)
+afterStart (given s) sync (refused n) = cond (eqb s sync) (refused n) (given stale)
+
+-- "Replay: 1, nothing, 5, 7, stale, then the first bad entry .., last the hash count 2"
+unfoldable pub replayAnswer : ℕ → List ℕ → List ℕ → ℕ → List ℕ → Answer Did
+replayAnswer n image log sync hashes =
+    cond (imageFits n (length image))
+    (cond (eqb (length log) 0) (given nothing) (afterStart (startOf log) sync (checkAnswer n log (length hashes))))
+    (refused 1)
+
+-- the entries of a log with their hashes
+abbrev pub stepsOf : List ℕ → List ℕ → List Step
+stepsOf log hashes = withHashes (readLog log .entries) hashes
+
+-- only `applied` changes the image
+abbrev pub imageBy : Answer Did → List ℕ → List ℕ → List ℕ
+imageBy (given nothing) image after = image
+imageBy (given stale) image after = image
+imageBy (given applied) image after = after
+imageBy (refused n) image after = image
+
+abbrev pub replayImage : ℕ → List ℕ → List ℕ → ℕ → List ℕ → List ℕ
+replayImage n image log sync hashes = imageBy (replayAnswer n image log sync hashes) image (replayed n (stepsOf log hashes) image)
+
+-- ---- one entry: "each entry is applied by one step"
+pub data Went : Type 0 where
+  cleared updated : ℕ → Went
+  atEnd : Went
+
+abbrev pub wentTo : Entry → ℕ → Went
+wentTo (clear b) p = cleared p
+wentTo (update id ws ns el b) p = updated p
+
+abbrev pub byNext : ℕ → Next → Answer Went
+byNext n (next e p) = cond (ltb (bucketOf e) n) (given (wentTo e p)) (refused 9)
+byNext n ended = given atEnd
+byNext n (stopped k) = refused k
+
+-- the step at a position: 1, then as in replay
+unfoldable pub stepAnswer : ℕ → List ℕ → List ℕ → ℕ → Answer Went
+stepAnswer n image log at = cond (imageFits n (length image)) (byNext n (nextAt log at)) (refused 1)
+
+abbrev pub stepBy : ℕ → Next → ℕ → List ℕ → List ℕ
+stepBy n (next e p) h image = stepped n (record { entry = e; hash = h }) image
+stepBy n ended h image = image
+stepBy n (stopped k) h image = image
+
+-- the image after it: a refusal leaves it
+unfoldable pub stepImage : ℕ → List ℕ → List ℕ → ℕ → ℕ → List ℕ
+stepImage n image log at h = cond (accepted (stepAnswer n image log at)) (stepBy n (nextAt log at) h image) image
+
+-- where the reading stops, seen without a record's fields
+abbrev pub checkStop : Seen → ℕ → ℕ → Answer (Unit {0})
+checkStop (aClear b p) updates hashes = cond (eqb hashes updates) (given tt) (refused 2)
+checkStop (anUpdate b c p) updates hashes = cond (eqb hashes updates) (given tt) (refused 2)
+checkStop theEnd updates hashes = cond (eqb hashes updates) (given tt) (refused 2)
+checkStop (aRefusal k) updates hashes = refused k
+
+abbrev pub stepStop : Seen → Answer Went
+stepStop (aClear b p) = given atEnd
+stepStop (anUpdate b c p) = given atEnd
+stepStop theEnd = given atEnd
+stepStop (aRefusal k) = refused k
+
+-- what each case of the code's answers says
+abbrev pub steppedSaid : Stepped → Answer Went
+steppedSaid (S.Cleared p) = given (cleared p)
+steppedSaid (S.Updated p) = given (updated p)
+steppedSaid S.End = given atEnd
+steppedSaid (S.Refused r) = refused (numberOf r)
+
+abbrev pub recoveredSaid : Recovered → Answer Did
+recoveredSaid R.Nothing = given nothing
+recoveredSaid R.Stale = given stale
+recoveredSaid R.Applied = given applied
+recoveredSaid (R.Refused r) = refused (numberOf r)
+
+-- demand 3: "an image that differs from that table only in places the log names"
+pub record OnlyNamed (n : ℕ) (ss : List Step) (table image : List ℕ) : Type 0 where
+  pub long : length image ≡ length table
+  pub others : (j : ℕ) → j < length table → namedIn n ss j ≡ false → getD image j 0 ≡ getD table j 0
+
+-- the images that stops can leave: the table; what any number of applied entries make of such an image; and any bytewise mix of two
+pub data Stopped (n : ℕ) (ss : List Step) (table : List ℕ) : List ℕ → Type 0 where
+  untouched : Stopped n ss table table
+  part-applied : (image : List ℕ) (k : ℕ) → Stopped n ss table image → Stopped n ss table (replayed n (take k ss) image)
+  mixed : (a b image : List ℕ) → Stopped n ss table a → Stopped n ss table b → length image ≡ length table
+      → ((j : ℕ) → j < length table → (getD image j 0 ≡ getD a j 0) ⊎ (getD image j 0 ≡ getD b j 0)) → Stopped n ss table image

@@ -1,0 +1,253 @@
+// Replay of a log on a table image, as the original's `recover`. The whole log is read before the
+// image is touched; then its entries are applied one after the other. Each write is by a function that
+// is lent only the tag byte, one slot or the last 40 bytes of a page, so whatever stops it leaves an image
+// that differs from the table only in places that the log names.
+ghost use mathlib.Core.Path.{_≡_};
+ghost use mathlib.Core.Bool.{true, false};
+ghost use mathlib.Core.List.{[], _∷_, _++_};
+ghost use Prim.Native.Nat.{_+_, _*_, _≤_};
+ghost use lib.ListN.{length, getD};
+ghost use Rattle.answers.specs.Answers.{given, outcomeSaid};
+ghost use Rattle.blocks.specs.Blocks.{block, tabulate};
+ghost use Rattle.ht_file.specs.Places.{imageFits};
+ghost use Rattle.page_diff.specs.Diff.{reserved, countOf};
+ghost use Rattle.page_diff.specs.Pack.{unpackedByte};
+ghost use Rattle.wal.specs.Log.{updateSize};
+ghost use Rattle.wal.specs.Reader.{diffAt, nodesFrom};
+ghost use Rattle.wal_read.specs.Head.{headSaid};
+ghost use Rattle.recover.specs.Places.{replayed, pageAfter};
+ghost use Rattle.recover.specs.Replay.{checkAnswer, checkStop, stepStop, stepAnswer, stepImage, replayAnswer, replayImage, stepsOf, steppedSaid, recoveredSaid};
+use answers::Number;
+use answers::Outcome;
+use answers::Refusal;
+use ht_file::PAGE_SIZE;
+use meta_map::TOMBSTONE;
+use page_diff::Diff;
+use wal_read::Head;
+
+// What replay did: nothing, for an empty log; nothing, for the log of another sync; or all of it.
+pub enum Recovered {
+    Nothing,
+    Stale,
+    Applied,
+    Refused(Refusal),
+}
+
+// What one step did: an entry applied, with the position of the next; or it stands at the end.
+pub enum Stepped {
+    Cleared(usize),
+    Updated(usize),
+    End,
+    Refused(Refusal),
+}
+
+// Whether a whole log, after its start, can be applied to a table of n buckets with so many hashes.
+pub fn check_log(log: &[u8], n: usize, hashes: usize) -> Outcome
+    ensures { λ r. ⌜ outcomeSaid r ≡ checkAnswer n (now (log .entry)) hashes ⌝ }
+{
+    let mut at = wal::START_SIZE;
+    let mut updates: usize = 0;
+    loop {
+        let head = wal_read::head_at(log, at);
+        if let Head::Clear { bucket, next } = head {
+            if n as u64 <= bucket {
+                return Outcome::Refused(Refusal::BucketOutside);
+            }
+            at = next;
+        } else {
+            let Head::Update {
+                bucket,
+                count: _,
+                next,
+            } = head
+            else {
+                return stopped_check(head, updates, hashes);
+            };
+            if n as u64 <= bucket {
+                return Outcome::Refused(Refusal::BucketOutside);
+            }
+            updates += 1;
+            at = next;
+        }
+    }
+}
+
+// The check where the reading stops: the refusal there, or at the end the count of hashes.
+fn stopped_check(head: Head, updates: usize, hashes: usize) -> Outcome
+    ensures { λ r. ⌜ outcomeSaid r ≡ checkStop (headSaid head) updates hashes ⌝ }
+{
+    if let Head::Refused(why) = head {
+        return Outcome::Refused(why);
+    }
+    if hashes != updates {
+        return Outcome::Refused(Refusal::LengthUnfit);
+    }
+    Outcome::Done
+}
+
+// Writes a tag, lent alone.
+fn write_tag(part: &mut [u8], tag: u8)
+    requires { ⌜ length (now part) ≡ 1 ⌝ }
+    ensures { λ _. ⌜ now (part .exit) ≡ tag ∷ [] ⌝ }
+{
+    part[0] = tag;
+}
+
+// Writes a node, lent its slot alone.
+fn write_node(part: &mut [u8], node: [u8; 32])
+    requires { ⌜ length (now part) ≡ 32 ⌝ }
+    ensures { λ _. ⌜ (now (part .exit) ≡ node) × (length node ≡ 32) ⌝ }
+{
+    blocks::put_32(part, 0, node);
+}
+
+// Writes the elided children and the page id, lent a page's last 40 bytes alone.
+fn write_label(part: &mut [u8], elided: [u8; 8], id: [u8; 32])
+    requires { ⌜ length (now part) ≡ 40 ⌝ }
+    ensures { λ _. ⌜ (now (part .exit) ≡ elided ++ id) × (length elided ≡ 8) × (length id ≡ 32) ⌝ }
+{
+    blocks::put_8(part, 0, elided);
+    blocks::put_32(part, 8, id);
+}
+
+// The marked slots of a page take the nodes that stand in the log from `from` on; the rest stays.
+fn write_slots(page: &mut [u8], d: Diff, log: &[u8], from: usize)
+    requires { ⌜ (length (now page) ≡ 4096) × (reserved (d .words) ≡ false) × (from + 32 * countOf (d .words) ≤ length (now log)) ⌝ }
+    ensures { λ _. ⌜ now (page .exit) ≡ tabulate (unpackedByte (d .words) (nodesFrom (now (log .entry)) from (countOf (d .words))) (now (page .entry))) 4096 ⌝ }
+{
+    let mut c = 0;
+    let mut left = d;
+    loop {
+        let next = page_diff::next_slot(left);
+        let s = next.slot;
+        if 126 <= s {
+            return;
+        }
+        let node = blocks::block_32(log, from + 32 * c);
+        let a = 32 * s;
+        let e = a + 32;
+        write_node(&mut page[a..e], node);
+        c += 1;
+        left = next.rest;
+    }
+}
+
+// The update at `at` on its page: the marked slots, then the last 40 bytes; the rest stays.
+fn apply_page(page: &mut [u8], log: &[u8], at: usize, count: usize)
+    requires { ⌜ (length (now page) ≡ 4096) × (reserved (diffAt (now log) at) ≡ false) × (count ≡ countOf (diffAt (now log) at)) × (at + updateSize count ≤ length (now log)) ⌝ }
+    ensures { λ _. ⌜ now (page .exit) ≡ pageAfter (block 32 (now (log .entry)) (at + 1)) (diffAt (now (log .entry)) at) (nodesFrom (now (log .entry)) (at + 49) count) (block 8 (now (log .entry)) (at + 49 + 32 * count)) (now (page .entry)) ⌝ }
+{
+    let read = page_diff::from_bytes(blocks::block_16(log, at + 33));
+    let d = read.diff;
+    write_slots(page, d, log, at + 49);
+    let elided = blocks::block_8(log, at + 49 + 32 * count);
+    let id = blocks::block_32(log, at + 1);
+    write_label(&mut page[4056..4096], elided, id);
+}
+
+// Applies the entry at a position of the log to the image: a clear writes its bucket's tag, an update its
+// tag, its marked slots and its last 40 bytes. Every other byte stays, and a refusal leaves all.
+pub fn apply_entry(image: &mut [u8], n: usize, log: &[u8], at: usize, hash: u64) -> Stepped
+    ensures { λ r. ⌜ (steppedSaid r ≡ stepAnswer n (now (image .entry)) (now (log .entry)) at) × (now (image .exit) ≡ stepImage n (now (image .entry)) (now (log .entry)) at hash) ⌝ }
+{
+    if ht_file::image_fits(n, image.len()) {
+        let head = wal_read::head_at(log, at);
+        if let Head::Clear { bucket, next } = head {
+            if n as u64 <= bucket {
+                return Stepped::Refused(Refusal::BucketOutside);
+            }
+            let b = bucket as usize;
+            write_tag(&mut image[b..b + 1], TOMBSTONE);
+            return Stepped::Cleared(next);
+        }
+        let Head::Update {
+            bucket,
+            count,
+            next,
+        } = head
+        else {
+            return stopped_step(head);
+        };
+        if n as u64 <= bucket {
+            return Stepped::Refused(Refusal::BucketOutside);
+        }
+        let b = bucket as usize;
+        write_tag(&mut image[b..b + 1], meta_map::full_entry(hash));
+        let a = PAGE_SIZE * ((n + 4095) / PAGE_SIZE + b);
+        let e = a + PAGE_SIZE;
+        apply_page(&mut image[a..e], log, at, count);
+        return Stepped::Updated(next);
+    }
+    Stepped::Refused(Refusal::TableUnfit)
+}
+
+// The step where the reading stops: the refusal there, or the end.
+fn stopped_step(head: Head) -> Stepped
+    ensures { λ r. ⌜ steppedSaid r ≡ stepStop (headSaid head) ⌝ }
+{
+    if let Head::Refused(why) = head {
+        return Stepped::Refused(why);
+    }
+    Stepped::End
+}
+
+// Applies every entry of a log that was checked for this table.
+fn run(image: &mut [u8], n: usize, log: &[u8], hashes: &[u64])
+    requires { ⌜ (imageFits n (length (now image)) ≡ true) × (checkAnswer n (now log) (length (now hashes)) ≡ given tt) ⌝ }
+    ensures { λ _. ⌜ now (image .exit) ≡ replayed n (stepsOf (now (log .entry)) (now (hashes .entry))) (now (image .entry)) ⌝ }
+{
+    let mut at = wal::START_SIZE;
+    let mut used: usize = 0;
+    loop {
+        let hash = hash_at(hashes, used);
+        let step = apply_entry(image, n, log, at, hash);
+        if let Stepped::Cleared(next) = step {
+            at = next;
+        } else {
+            let Stepped::Updated(next) = step else {
+                return;
+            };
+            at = next;
+            used += 1;
+        }
+    }
+}
+
+// The hash at an index, 0 where there is none.
+fn hash_at(hashes: &[u64], i: usize) -> u64
+    ensures { λ r. ⌜ r ≡ getD (now (hashes .entry)) i 0 ⌝ }
+{
+    if i < hashes.len() {
+        return hashes[i];
+    }
+    0
+}
+
+// Replay: applies a log to the image of a table of n buckets, where the log is of the expected sync and
+// can be applied whole; otherwise the image stays as it is.
+pub fn recover(image: &mut [u8], n: usize, log: &[u8], sync: u32, hashes: &[u64]) -> Recovered
+    ensures { λ r. ⌜ (recoveredSaid r ≡ replayAnswer n (now (image .entry)) (now (log .entry)) sync (now (hashes .entry))) × (now (image .exit) ≡ replayImage n (now (image .entry)) (now (log .entry)) sync (now (hashes .entry))) ⌝ }
+{
+    if ht_file::image_fits(n, image.len()) {
+        if log.len() == 0 {
+            return Recovered::Nothing;
+        }
+        let start = wal_read::set(log);
+        if let Number::Refused(why) = start {
+            return Recovered::Refused(why);
+        }
+        let Number::Is(found) = start else {
+            return Recovered::Stale;
+        };
+        if found != sync as u64 {
+            return Recovered::Stale;
+        }
+        let checked = check_log(log, n, hashes.len());
+        if let Outcome::Refused(why) = checked {
+            return Recovered::Refused(why);
+        }
+        run(image, n, log, hashes);
+        return Recovered::Applied;
+    }
+    Recovered::Refused(Refusal::TableUnfit)
+}

@@ -1,0 +1,4 @@
+pub mod NextLaws
+pub mod Nodes
+pub mod ReadLaws
+pub mod Answered

@@ -1,0 +1,231 @@
+// The read path of a log, as the original's wal/read.rs. `head_at` is the core: it takes a record
+// apart but for its nodes, and builds no table. `entry_at` gives the whole entry. Both take the log and
+// a position; `WalBlobReader` holds the two.
+ghost use mathlib.Core.Path.{_≡_};
+ghost use mathlib.Core.Bool.{false};
+ghost use Prim.Native.Nat.{_+_, _*_, _≤_};
+ghost use lib.ListN.{length};
+ghost use Rattle.answers.specs.Answers.{outcomeSaid, numberSaid};
+ghost use Rattle.blocks.specs.Blocks.{block};
+ghost use Rattle.page_diff.specs.Diff.{readAnswer, readWords};
+ghost use Rattle.wal.specs.Log.{startSize};
+ghost use Rattle.wal.specs.Reader.{startOf, nextAt, nodesFrom};
+ghost use Rattle.wal_read.specs.Head.{headOf, headSaid};
+ghost use Rattle.wal_read.specs.Entry.{Taken, Bare, rows};
+use answers::Number;
+use answers::Outcome;
+use answers::Refusal;
+use page_diff::Diff;
+use page_diff::DiffAnswer;
+use page_diff::Packed;
+
+// Where the diff of an update stands, and where its nodes do.
+const DIFF_AT: usize = 33;
+
+const NODES_AT: usize = 49;
+
+// A record without its nodes: the bucket, the count of nodes, and the position after the record.
+pub enum Head {
+    Clear {
+        bucket: u64,
+        next: usize,
+    },
+    Update {
+        bucket: u64,
+        count: usize,
+        next: usize,
+    },
+    End,
+    Refused(Refusal),
+}
+
+pub enum What {
+    Clear(u64),
+    Update(u64),
+    End,
+    Refused(Refusal),
+}
+
+// An entry: what it is and its bucket; of an update the id, the diff, the nodes and the elided children,
+// all zero otherwise; and where the next one stands. (An array does not stand in an enum, so beside it.)
+pub struct WalEntry {
+    pub what: What,
+    pub id: [u8; 32],
+    pub diff: Diff,
+    pub packed: Packed,
+    pub elided: [u8; 8],
+    pub next: usize,
+}
+
+// The sync number of a log, read when a reader is set on it: 5, 6 for an empty log, 7. The first entry
+// stands at wal::START_SIZE.
+pub fn set(log: &[u8]) -> Number
+    ensures { λ r. ⌜ numberSaid r ≡ startOf (now (log .entry)) ⌝ }
+{
+    if log.len() % wal::PAGE_SIZE != 0 {
+        return Number::Refused(Refusal::LogNotPages);
+    }
+    if log.len() == 0 {
+        return Number::Refused(Refusal::LogCut);
+    }
+    if log[0] != wal::WAL_ENTRY_TAG_START {
+        return Number::Refused(Refusal::NoStart);
+    }
+    Number::Is(blocks::read_u32(log, 1) as u64)
+}
+
+// The diff of the update at `at`, or a refusal of it.
+fn diff_at(log: &[u8], at: usize) -> DiffAnswer
+    requires { ⌜ at + 49 ≤ length (now log) ⌝ }
+    ensures { λ r. ⌜ (outcomeSaid (r .outcome) ≡ readAnswer (block 16 (now (log .entry)) (at + 33))) × (r .diff .words ≡ readWords (block 16 (now (log .entry)) (at + 33))) ⌝ }
+{
+    page_diff::from_bytes(blocks::block_16(log, at + DIFF_AT))
+}
+
+// The record at `at` without its nodes. It looks at no byte past the record, and no sum wraps on a
+// position that no call answered.
+pub fn head_at(log: &[u8], at: usize) -> Head
+    ensures { λ r. ⌜ headSaid r ≡ headOf (nextAt (now (log .entry)) at) ⌝ }
+{
+    if log.len() <= at {
+        return Head::Refused(Refusal::LogCut);
+    }
+    let left = log.len() - at;
+    let tag = log[at];
+    if tag == wal::WAL_ENTRY_TAG_END {
+        return Head::End;
+    }
+    if tag == wal::WAL_ENTRY_TAG_CLEAR {
+        if left < wal::CLEAR_SIZE {
+            return Head::Refused(Refusal::LogCut);
+        }
+        return Head::Clear {
+            bucket: blocks::read_u64(log, at + 1),
+            next: at + wal::CLEAR_SIZE,
+        };
+    }
+    if tag != wal::WAL_ENTRY_TAG_UPDATE {
+        return Head::Refused(Refusal::TagUnknown);
+    }
+    if left < NODES_AT {
+        return Head::Refused(Refusal::LogCut);
+    }
+    let read = diff_at(log, at);
+    let outcome = read.outcome;
+    if let Outcome::Refused(why) = outcome {
+        return Head::Refused(why);
+    }
+    let count = page_diff::count(read.diff);
+    let size = wal::UPDATE_SIZE + 32 * count;
+    if left < size {
+        return Head::Refused(Refusal::LogCut);
+    }
+    Head::Update {
+        bucket: blocks::read_u64(log, at + (size - 8)),
+        count,
+        next: at + size,
+    }
+}
+
+// The table of `count` nodes that stand in the log from `from` on, zeros after them.
+fn nodes_at(log: &[u8], from: usize, count: usize) -> [[u8; 32]; 126]
+    requires { ⌜ (count ≤ 126) × (from + 32 * count ≤ length (now log)) ⌝ }
+    ensures { λ r. ⌜ r ≡ rows (nodesFrom (now (log .entry)) from count) ⌝ }
+{
+    let mut nodes = [[0u8; 32]; 126];
+    let mut c = 0;
+    while c < count {
+        nodes[c] = blocks::block_32(log, from + 32 * c);
+        c += 1;
+    }
+    nodes
+}
+
+// An entry that is no update.
+fn bare(what: What, next: usize) -> WalEntry
+    ensures { λ e. ⌜ Bare what next e ⌝ }
+{
+    let id = [0u8; 32];
+    let words = [0u64; 2];
+    let diff = Diff { words };
+    let packed = page_diff::pack_up([[0u8; 32]; 126], 0);
+    let elided = [0u8; 8];
+    WalEntry {
+        what,
+        id,
+        diff,
+        packed,
+        elided,
+        next,
+    }
+}
+
+// The entry at `at`. At the end and on a refusal `next` is `at` itself.
+pub fn entry_at(log: &[u8], at: usize) -> WalEntry
+    ensures { λ e. ⌜ Taken (nextAt (now (log .entry)) at) at e ⌝ }
+{
+    let head = head_at(log, at);
+    match head {
+        Head::Clear { bucket, next } => bare(What::Clear(bucket), next),
+        Head::Update {
+            bucket,
+            count,
+            next,
+        } => {
+            let id = blocks::block_32(log, at + 1);
+            let read = diff_at(log, at);
+            let diff = read.diff;
+            let packed = page_diff::pack_up(nodes_at(log, at + NODES_AT, count), count);
+            let elided = blocks::block_8(log, at + NODES_AT + 32 * count);
+            WalEntry {
+                what: What::Update(bucket),
+                id,
+                diff,
+                packed,
+                elided,
+                next,
+            }
+        }
+        Head::End => bare(What::End, at),
+        Head::Refused(why) => bare(What::Refused(why), at),
+    }
+}
+
+// A reader set on a log: the log, and the position of the next entry.
+pub struct WalBlobReader<'a> {
+    pub log: &'a [u8],
+    pub at: usize,
+}
+
+// A reader set on a log, before its first entry. Whether the log has a start, `sync_seqn` says.
+pub fn new<'a>(log: &'a [u8]) -> WalBlobReader<'a>
+    ensures { λ r. ⌜ (r .log ≡ log .entry) × (r .at ≡ startSize) ⌝ }
+{
+    WalBlobReader {
+        log,
+        at: wal::START_SIZE,
+    }
+}
+
+// The sync number of the reader's log.
+pub fn sync_seqn<'a>(r: WalBlobReader<'a>) -> Number
+    ensures { λ n. ⌜ numberSaid n ≡ startOf (now (r .entry .log)) ⌝ }
+{
+    set(r.log)
+}
+
+// The entry at which a reader stands.
+pub fn peek<'a>(r: WalBlobReader<'a>) -> WalEntry
+    ensures { λ e. ⌜ Taken (nextAt (now (r .entry .log)) (r .entry .at)) (r .entry .at) e ⌝ }
+{
+    entry_at(r.log, r.at)
+}
+
+// The same, and the reader moves on; at the end and on a refusal it stays.
+pub fn read_entry<'s, 'a>(r: &'s mut WalBlobReader<'a>) -> WalEntry
+    ensures { λ e. ⌜ (Taken (nextAt (now (now (r .entry) .log)) (now (r .entry) .at)) (now (r .entry) .at) e) × (now (r .exit) .log ≡ now (r .entry) .log) × (now (r .exit) .at ≡ e .next) ⌝ }
+{
+    let e = peek(*r);
+    r.at = e.next;
+    e
+}
