@@ -1,17 +1,17 @@
 -- What is known of tags: the three tests by kind, the full tag, counts by kind as one tag is written, and bytes that are all zero.
 -- Assumes nothing.
-use mathlib.Core.Path.{_≡_, refl, sym, ap, ap₂, _∙_, subst}
+use mathlib.Core.Path.{_≡_, refl, sym, ap, ap₂, _∙_}
 use mathlib.Core.Bool.{Bool, true, false, cond, _&&_}
 use mathlib.Core.List.{List, [], _∷_}
-use Prim.Native.Nat.{ℕ, zero, suc, _+_, _/_, _^_, _≤_, _<_}
-use native.Mathlib.Nat.{div-lt-iff-lt-mul, le-refl}
+use Prim.Native.Nat.{ℕ, zero, suc, _+_, _^_, _≤_, _<_}
+use native.Mathlib.Nat.{le-refl}
 use native.Mathlib.Decide.{ℕ-discrete}
 use native.Mathlib.Numerals.{add-one}
 use native.Mathlib.Omega.{arith}
 use lib.Dec.{leb, eqb}
-use lib.ListN.{length, getD, set, drop}
-use lib.Seq.{getD-set-same, getD-set-other, getD-drop}
-use borrow.Author.Tests.{leb-true, eqb-true, lt-leb, le-leb, ne-eqb, eq-eqb}
+use lib.ListN.{length, getD, set, drop, length-drop}
+use lib.Seq.{getD-set-same, getD-set-other, getD-drop, drop-set-lt}
+use borrow.Author.Tests.{leb-true, eqb-true, le-leb, ne-eqb, eq-eqb}
 use Rattle.ht_file.proofs.Laws.{both-hold}
 use Rattle.meta_map.specs.Tags.{Kind, empty, tombstone, full, other, kindOf, isKind, fullTag, one, countOf, allZero, paddingEmpty}
 
@@ -140,3 +140,10 @@ zero-at-all (t ∷ ts) h = ap₂ _&&_ (eq-eqb t 0 (h 0 (omega arith))) (zero-at-
 
 pub padding-at : (ts : List ℕ) (n : ℕ) → paddingEmpty ts n ≡ true → (i : ℕ) → getD ts (n + i) 0 ≡ 0
 padding-at ts n e i = sym (getD-drop n ts i 0) ∙ all-zero-at (drop n ts) e i
+
+pub padding-all : (ts : List ℕ) (n : ℕ) → ((i : ℕ) → n + i < length ts → getD ts (n + i) 0 ≡ 0) → paddingEmpty ts n ≡ true
+padding-all ts n h = zero-at-all (drop n ts) (λ i l. getD-drop n ts i 0 ∙ h i (omega (arith, length-drop n ts)))
+
+-- a bucket's tag is no padding
+pub padding-set : (ts : List ℕ) (n b t : ℕ) → b < n → paddingEmpty (set ts b t) n ≡ paddingEmpty ts n
+padding-set ts n b t l = ap allZero (drop-set-lt n ts b t l)

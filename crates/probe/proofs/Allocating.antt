@@ -7,12 +7,12 @@ use Prim.Native.Nat.{ℕ, _+_, _-_, _*_, _≤_, _<_}
 use native.Mathlib.Decide.{decLt}
 use native.Mathlib.Omega.{arith}
 use lib.Dec.{leb, ltb}
-use lib.ListN.{length, getD}
+use lib.ListN.{length}
 use borrow.Author.Tests.{lt-ltb, le-leb, lt-leb, leb-true}
-use Rattle.answers.specs.Answers.{Answer, given, refused}
+use Rattle.answers.specs.Answers.{given, refused}
 use Rattle.ht_file.specs.Places.{tagsFit}
 use Rattle.ht_file.proofs.Laws.{tags-fit-facts}
-use Rattle.probe.specs.Path.{visit, visits, pathFrom, hits, Stop, stopAt, nowhere, firstStop, freeAt, freeStop, noBucket, allocationSaw, allocating, allocateAnswer}
+use Rattle.probe.specs.Path.{visits, pathFrom, hits, Stop, stopAt, nowhere, freeAt, freeStop, noBucket, allocationSaw, allocating, allocateAnswer}
 use Rattle.probe.proofs.Visits.{visit-below, hits-mono}
 use Rattle.probe.proofs.Walk.{Passed, Stopped, stop-told}
 

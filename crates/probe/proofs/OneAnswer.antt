@@ -1,6 +1,6 @@
 -- A promise names one answer only: each case of the code's answers is told by what it says. Assumes nothing.
 use mathlib.Core.Path.{_≡_, refl, sym, ap, _∙_}
-use mathlib.Core.Bool.{Bool, cond}
+use mathlib.Core.Bool.{cond}
 use Prim.Native.Nat.{ℕ}
 use lib.Dec.{eqb}
 use Rattle.answers.specs.Answers.{Answer, given, refused}

@@ -1,26 +1,25 @@
 -- What a user relies on: the bucket that allocation gives, the bucket that lookup finds, and that a page stored in the first is found by the
 -- second. Assumes nothing.
 use mathlib.Core.Path.{_≡_, refl, sym, ap, _∙_, subst}
-use mathlib.Core.Bool.{Bool, true, false, true≢false, cond, _&&_, _||_}
+use mathlib.Core.Bool.{Bool, true, false, true≢false, cond, _||_}
 use mathlib.Core.List.{List}
-use Prim.Native.Nat.{ℕ, _+_, _*_, _≤_, _<_}
-use native.Mathlib.Decide.{ℕ-discrete, decLt}
+use Prim.Native.Nat.{ℕ, _*_, _≤_, _<_}
+use native.Mathlib.Decide.{decLt}
 use native.Mathlib.Omega.{arith}
-use lib.Dec.{eqb}
 use lib.ListN.{length, getD, set, length-set}
 use lib.Seq.{getD-set-same, getD-set-other}
-use borrow.Author.Tests.{eqb-true, eq-eqb, eqb-false}
+use borrow.Author.Tests.{eqb-true, eq-eqb}
 use Rattle.answers.specs.Answers.{Answer, given, refused}
-use Rattle.ht_file.specs.Places.{tagsFit, imageFits}
-use Rattle.ht_file.proofs.Laws.{both-hold, tags-fit-facts, image-fits-facts}
+use Rattle.ht_file.specs.Places.{imageFits}
+use Rattle.ht_file.proofs.Laws.{both-hold, image-fits-facts}
 use Rattle.meta_map.specs.Tags.{fullTag}
 use Rattle.meta_map.proofs.Laws.{kind-empty, full-tag-not-empty}
-use Rattle.probe.specs.Path.{visit, visits, pathFrom, hits, isEmpty, isTombstone, isFree, isHit, Stop, stopAt, nowhere, firstStop, freeAt, sameBytes, pageEnd, holds, Sought, foundAt, absent, unreached, stopsLookup, lookupSaw, lookingUp, lookupAnswer, allocating, allocateAnswer, tagsAfter, allocatedTags}
+use Rattle.probe.specs.Path.{visit, visits, pathFrom, hits, isEmpty, isTombstone, isFree, isHit, Stop, stopAt, nowhere, firstStop, sameBytes, pageEnd, holds, Sought, foundAt, absent, unreached, stopsLookup, lookupSaw, lookingUp, lookupAnswer, allocateAnswer, tagsAfter, allocatedTags}
 use Rattle.probe.proofs.Bytes.{same-equal, equal-same}
-use Rattle.probe.proofs.Tests.{empty-is, empty-not}
+use Rattle.probe.proofs.Tests.{empty-is}
 use Rattle.probe.proofs.Visits.{visit-below}
-use Rattle.probe.proofs.Walk.{Passed, Stopped, stop-here, stop-told, never-told}
-use Rattle.probe.proofs.Allocating.{hitsTo, given-told, answer-told, answer-below}
+use Rattle.probe.proofs.Walk.{Passed, Stopped, stop-told, never-told}
+use Rattle.probe.proofs.Allocating.{given-told, answer-told, answer-below}
 
 -- bucket b is given at visit k: it is on the path, below n and was free, as no visit before; its tag is now the hash's and every other as before
 pub record AllocatedAt (limit : ℕ) (ts : List ℕ) (n h b k : ℕ) : Type 0 where

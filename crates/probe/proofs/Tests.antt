@@ -1,8 +1,8 @@
 -- The tests of a tag byte, from what the code compared. Assumes nothing.
 use mathlib.Core.Path.{_≡_, ap₂, _∙_}
-use mathlib.Core.Bool.{Bool, true, false, _||_}
+use mathlib.Core.Bool.{true, false, _||_}
 use Prim.Native.Nat.{ℕ}
-use borrow.Author.Tests.{eq-eqb, ne-eqb, eqb-true}
+use borrow.Author.Tests.{eq-eqb, ne-eqb}
 use Rattle.meta_map.proofs.Laws.{kind-empty, kind-tombstone}
 use Rattle.probe.specs.Path.{isEmpty, isTombstone, isFree}
 

@@ -1,9 +1,9 @@
 -- The visits of a hash: the triangle numbers k (k + 1) / 2 and their remainders by n, which repeat after 2 n and read the same backwards; and
 -- the hits among the visits. Assumes nothing.
-use mathlib.Core.Path.{_≡_, refl, sym, ap, ap₂, _∙_}
-use mathlib.Core.List.{List, [], _∷_}
+use mathlib.Core.Path.{_≡_, refl, sym, ap, _∙_}
+use mathlib.Core.List.{List}
 use Prim.Native.Nat.{ℕ, zero, suc, _+_, _-_, _*_, _/_, _%_, _≤_, _<_}
-use native.Mathlib.Nat.{mul-suc, suc-mul, suc-add, add-suc, zero-add, add-zero, add-comm, add-assoc, mul-comm, mul-assoc, mul-div-right, mul-mod-right, zero-mod, mod-add-mod, add-mod-mod, add-mul-mod-self-left, mod-add-div', mul-le-mul, mod-lt, zero-lt-suc}
+use native.Mathlib.Nat.{mul-suc, suc-mul, suc-add, zero-add, add-comm, add-assoc, mul-comm, mul-assoc, mul-div-right, mul-mod-right, zero-mod, mod-add-mod, add-mod-mod, add-mul-mod-self-left, mod-add-div', mul-le-mul, mod-lt, zero-lt-suc}
 use native.Mathlib.Numerals.{add-one}
 use native.Mathlib.Omega.{arith}
 use lib.ListN.{getD}

@@ -1,14 +1,21 @@
 -- The first stop of a walk: found by passing visits one after the other, and what is known of it. Assumes nothing.
 use mathlib.Core.Path.{_≡_, refl, sym, ap, _∙_, subst}
-use mathlib.Core.Bool.{Bool, true, false, true≢false, cond}
-use mathlib.Core.List.{List, [], _∷_}
-use Prim.Native.Nat.{ℕ, zero, suc, _+_, _*_, _%_, _≤_, _<_}
+use mathlib.Core.Bool.{Bool, true, false, cond}
+use mathlib.Core.List.{List}
+use Prim.Native.Nat.{ℕ, zero, suc, _+_, _*_, _≤_, _<_}
 use native.Mathlib.Nat.{mod-lt}
 use native.Mathlib.Decide.{ℕ-discrete}
 use native.Mathlib.Omega.{arith}
+use lib.ListN.{length}
+use Rattle.ht_file.specs.Places.{tagsFit}
+use Rattle.ht_file.proofs.Laws.{tags-fit-facts}
 use Rattle.probe.specs.declared.ProbeSequence.{ProbeSequence}
-use Rattle.probe.specs.Path.{visit, visits, Stop, stopAt, nowhere, firstStop, pathFrom, stands}
+use Rattle.probe.specs.Path.{visit, visits, stopAt, nowhere, firstStop, pathFrom, stands}
 use Rattle.probe.proofs.Visits.{visit-below}
+
+-- a table that fits has a tag for each bucket
+pub tags-room : (ts : List ℕ) (n : ℕ) → tagsFit n (length ts) ≡ true → (1 ≤ n) × (n ≤ 1048576) × (n ≤ length ts)
+tags-room ts n e = let f = tags-fit-facts n (length ts) e in (f .0, f .1, omega arith)
 
 -- a walk's bucket and step are below n
 pub stands-below : (n : ℕ) (p : ProbeSequence) → 0 < n → stands n p → (p .bucket < n) × (p .step < n)

@@ -1,6 +1,6 @@
 -- The entry that is answered, by what stands at the position; and that an answer is determined by what it says. Assumes nothing.
-use mathlib.Core.Path.{_≡_, refl, sym, ap, ap₂, _∙_, subst}
-use mathlib.Core.List.{List, [], _∷_}
+use mathlib.Core.Path.{_≡_, refl, sym, ap, _∙_, subst}
+use mathlib.Core.List.{List, []}
 use Prim.Native.Nat.{ℕ, _+_, _*_}
 use native.Mathlib.Omega.{arith}
 use lib.ListN.{length, replicate}
@@ -10,12 +10,11 @@ use Rattle.answers.proofs.Laws.{refusal-one}
 use Rattle.blocks.specs.Blocks.{le, block}
 use Rattle.page_diff.specs.Diff.{countOf, readWords}
 use Rattle.page_diff.specs.Pack.{packedBy}
-use Rattle.page_diff.specs.declared.Diff.{Diff}
 use Rattle.page_diff.specs.declared.Packed.{Packed}
-use Rattle.wal.specs.Log.{Entry, clear, update}
+use Rattle.wal.specs.Log.{clear}
 use Rattle.wal.specs.Reader.{Next, next, ended, stopped, nodesFrom, diffAt, updateOf, nextAt}
-use Rattle.wal_read.specs.Head.{Seen, headSaid}
-use Rattle.wal_read.specs.Entry.{Kind, updates, whatSaid, whatOf, idOf, diffOf, nodesOf, elidedOf, nextOf, packedOf, rows, Taken, Bare}
+use Rattle.wal_read.specs.Head.{headSaid}
+use Rattle.wal_read.specs.Entry.{updates, whatSaid, rows, Taken, Bare}
 use Rattle.wal_read.specs.declared.Head.{Head}
 use Rattle.wal_read.specs.declared.Head.the-variants as head
 use Rattle.wal_read.specs.declared.What.{What}

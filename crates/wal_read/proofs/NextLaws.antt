@@ -2,18 +2,17 @@
 use mathlib.Core.Path.{_≡_, refl, sym, ap, _∙_}
 use mathlib.Core.Bool.{Bool, true, false, cond}
 use mathlib.Core.List.{List, [], _∷_}
-use Prim.Native.Nat.{ℕ, zero, suc, _+_, _*_, _%_, _≤_, _<_}
+use Prim.Native.Nat.{ℕ, _+_, _*_, _%_, _≤_, _<_}
 use native.Mathlib.Omega.{arith}
 use lib.Dec.{leb, eqb}
 use lib.ListN.{length, getD}
 use borrow.Author.Tests.{le-leb, lt-leb, eq-eqb, ne-eqb, eqb-true, eqb-false}
-use Rattle.answers.specs.Answers.{Answer, given, refused}
+use Rattle.answers.specs.Answers.{given, refused}
 use Rattle.answers.proofs.Laws.{given-refused, refused-one}
 use Rattle.blocks.specs.Blocks.{le, block}
 use Rattle.page_diff.specs.Diff.{wordsOf, countOf, reserved, readAnswer, readWords}
-use Rattle.wal.specs.Log.{Entry, clear, update, updateSize}
-use Rattle.wal.specs.Reader.{Next, next, ended, stopped, startOf, clearAt, updateAt, updateOf, nodesFrom, diffAt, nextAt}
-use Rattle.wal_read.specs.Head.{Seen, aClear, anUpdate, theEnd, aRefusal, headOf}
+use Rattle.wal.specs.Log.{clear}
+use Rattle.wal.specs.Reader.{next, ended, stopped, startOf, clearAt, updateAt, updateOf, diffAt, nextAt}
 
 -- ---- the start: "5, then 6 for an empty log, 7"
 module _ (log : List ℕ) where

@@ -4,7 +4,7 @@ use mathlib.Core.List.{List, [], _∷_, _++_}
 use Prim.Native.Nat.{ℕ, zero, suc, _+_, _-_, _*_, _≤_, _<_}
 use native.Mathlib.Omega.{arith}
 use native.Mathlib.Numerals.{add-one}
-use lib.ListN.{length, set, replicate, length-append}
+use lib.ListN.{length, getD, set, replicate, length-append, length-replicate, List·getD-append}
 use lib.Seq.{set-at, append-snoc}
 use Rattle.blocks.specs.Blocks.{block}
 use Rattle.wal.specs.Reader.{nodesFrom}
@@ -48,3 +48,12 @@ rows-turn log p c t n e f h =
     ∙ rows-snoc (nodesFrom log p c) n (omega arith)
     ∙ ap (λ (x : List ℕ). rows (nodesFrom log p c ++ (x ∷ []))) f
     ∙ ap rows (sym (nodes-suc log p c) ∙ ap (nodesFrom log p) (sym (add-one c)))
+
+-- ---- what the table holds: 126 rows, the nodes first
+pub rows-length : (ns : List (List ℕ)) → length ns ≤ 126 → length (rows ns) ≡ 126
+unfolding rows
+rows-length ns h = omega (arith, length-append ns (replicate (126 - length ns) (replicate 32 0)), length-replicate {A = List ℕ} (126 - length ns) (replicate 32 0))
+
+pub rows-node : (ns : List (List ℕ)) (i : ℕ) → i < length ns → getD (rows ns) i [] ≡ getD ns i []
+unfolding rows
+rows-node ns i h = List·getD-append ns (replicate (126 - length ns) (replicate 32 0)) [] i h

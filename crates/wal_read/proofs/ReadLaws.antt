@@ -1,7 +1,7 @@
 -- What is known of an entry that is read, where it goes on, and what the reading of a log is at each kind of record. Assumes nothing.
 use mathlib.Core.Path.{_≡_, refl, sym, ap, _∙_, subst}
 use mathlib.Core.Bool.{Bool, true, false}
-use mathlib.Core.List.{List, [], _∷_}
+use mathlib.Core.List.{List}
 use Prim.Native.Nat.{ℕ, zero, suc, _+_, _*_, _≤_, _<_}
 use native.Mathlib.Nat.{lt-of-not-le}
 use native.Mathlib.Decide.{decLe}
@@ -9,13 +9,13 @@ use native.Mathlib.Omega.{arith}
 use lib.Dec.{eqb}
 use lib.ListN.{length, getD}
 use borrow.Author.Tests.{eqb-true, eqb-false}
-use Rattle.answers.specs.Answers.{Answer, given, refused}
+use Rattle.answers.specs.Answers.{given, refused}
 use Rattle.blocks.specs.Blocks.{le, block}
 use Rattle.page_diff.specs.Diff.{countOf, reserved}
 use Rattle.page_diff.proofs.Walk.{plain-count}
 use Rattle.wal.specs.Log.{Entry, clear, update}
 use Rattle.wal.specs.Reader.{Next, next, ended, stopped, nodesFrom, diffAt, updateOf, nextAt, Reading, stopAt, andThen, readOn, readIn, readFrom}
-use Rattle.wal_read.specs.Head.{Seen, aClear, anUpdate, theEnd, aRefusal, headOf}
+use Rattle.wal_read.specs.Head.{aClear, anUpdate, theEnd, aRefusal, headOf}
 use Rattle.wal_read.proofs.NextLaws.{next-past, next-end, next-unknown, next-clear-cut, next-clear, next-diff-cut, next-reserved, next-update-cut, next-update}
 use Rattle.wal_read.proofs.Nodes.{nodes-length}
 

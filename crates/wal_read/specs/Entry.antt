@@ -6,7 +6,7 @@ use lib.ListN.{length, replicate}
 use Rattle.answers.specs.Refusals.{numberOf}
 use Rattle.page_diff.specs.Pack.{packedBy}
 use Rattle.page_diff.specs.declared.Packed.{Packed}
-use Rattle.wal.specs.Log.{Entry, clear, update}
+use Rattle.wal.specs.Log.{clear, update}
 use Rattle.wal.specs.Reader.{Next, next, ended, stopped}
 use Rattle.wal_read.specs.declared.What.{What}
 use Rattle.wal_read.specs.declared.What.the-variants as what

@@ -2,7 +2,7 @@
 use Prim.Native.Nat.{ℕ}
 use Rattle.answers.specs.Refusals.{numberOf}
 use Rattle.page_diff.specs.Diff.{countOf}
-use Rattle.wal.specs.Log.{Entry, clear, update}
+use Rattle.wal.specs.Log.{clear, update}
 use Rattle.wal.specs.Reader.{Next, next, ended, stopped}
 use Rattle.wal_read.specs.declared.Head.{Head}
 use Rattle.wal_read.specs.declared.Head.the-variants as head

@@ -2,7 +2,6 @@
 // apart but for its nodes, and builds no table. `entry_at` gives the whole entry. Both take the log and
 // a position; `WalBlobReader` holds the two.
 ghost use mathlib.Core.Path.{_≡_};
-ghost use mathlib.Core.Bool.{false};
 ghost use Prim.Native.Nat.{_+_, _*_, _≤_};
 ghost use lib.ListN.{length};
 ghost use Rattle.answers.specs.Answers.{outcomeSaid, numberSaid};

@@ -10,7 +10,6 @@ use lib.ListN.{length, getD, drop, drop-of-length-le}
 use lib.Seq.{drop-cons}
 use borrow.Author.Needs.{needs}
 use borrow.Author.Tests.{eq-eqb, ne-eqb}
-use Rattle.answers.specs.Answers.{Answer, given}
 use Rattle.ht_file.specs.Places.{tagsFit}
 use Rattle.ht_file.proofs.Laws.{tags-fit-facts}
 use Rattle.meta_map.specs.Tags.{allZero, paddingEmpty}

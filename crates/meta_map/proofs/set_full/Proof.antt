@@ -1,7 +1,4 @@
 -- What is written is the full tag. Assumes nothing.
-use Rattle.meta_map.specs.Tags.{tagWritten}
-use Prim.Native.Nat.{ℕ}
-use mathlib.Core.Path.{_≡_, ap, _∙_}
 use borrow.Author.Needs.{needs}
 use Rattle.meta_map.proofs.set_full.Statement.{statement}
 use Rattle.meta_map.proofs.set_full.Tie as tie

@@ -2,10 +2,9 @@
 use Rattle.ht_file.proofs.Laws.{tags-fit-facts}
 use Rattle.ht_file.specs.Places.{tagsFit}
 use lib.ListN.{length}
-use Prim.Native.Nat.{ℕ, _<_}
 use borrow.Author.Tests.{lt-ltb, le-ltb}
-use mathlib.Core.Bool.{Bool, true, false}
-use mathlib.Core.Path.{_≡_, refl, sym, _∙_}
+use mathlib.Core.Bool.{true, false}
+use mathlib.Core.Path.{_≡_, sym, _∙_}
 use native.Mathlib.Omega.{arith}
 use borrow.Author.Needs.{needs}
 use Rattle.meta_map.proofs.set_tag.Statement.{statement}

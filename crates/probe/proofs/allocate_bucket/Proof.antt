@@ -1,11 +1,10 @@
 -- What is found is given; a bucket that is found has a tag, and only that one is written. Assumes nothing.
-use mathlib.Core.Path.{_≡_, refl, sym, ap, ap₂, _∙_}
-use mathlib.Core.List.{List}
-use Prim.Native.Nat.{ℕ, _<_}
+use mathlib.Core.Path.{_≡_, sym, ap, _∙_}
+use Prim.Native.Nat.{ℕ}
 use native.Mathlib.Omega.{arith}
-use lib.ListN.{length, set}
+use lib.ListN.{set}
 use borrow.Author.Needs.{needs}
-use Rattle.answers.specs.Answers.{Answer, given, refused}
+use Rattle.answers.specs.Answers.{Answer, given}
 use Rattle.probe.specs.Path.{hitLimit, allocateAnswer, tagsAfter, allocatedSaid}
 use Rattle.probe.proofs.Allocating.{answer-below}
 use Rattle.probe.proofs.allocate_bucket.Statement.{statement}

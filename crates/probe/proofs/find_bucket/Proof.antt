@@ -13,13 +13,12 @@ use borrow.Author.Needs.{needs}
 use borrow.Author.Tests.{eq-eqb, ne-eqb, lt-ltb, le-ltb}
 use Rattle.answers.specs.Answers.{Answer, given, refused}
 use Rattle.ht_file.specs.Places.{tagsFit}
-use Rattle.ht_file.proofs.Laws.{tags-fit-facts}
 use Rattle.meta_map.specs.Tags.{fullTag, one}
 use Rattle.probe.specs.declared.ProbeSequence.{ProbeSequence}
-use Rattle.probe.specs.Path.{isHit, stopAt, pathFrom, freeAt, hitLimit, allocating, allocateAnswer}
+use Rattle.probe.specs.Path.{isHit, freeAt, hitLimit, allocating, allocateAnswer}
 use Rattle.probe.proofs.Tests.{empty-is, empty-not, tombstone-is, free-not}
 use Rattle.probe.proofs.Visits.{hits-none, hits-next}
-use Rattle.probe.proofs.Walk.{passed-more, Walking, walk-start, walk-below, walk-here, walk-stop, walk-on, walk-end}
+use Rattle.probe.proofs.Walk.{tags-room, passed-more, Walking, walk-start, walk-below, walk-here, walk-stop, walk-on, walk-end}
 use Rattle.probe.proofs.Allocating.{hitsTo, given-at, none-free, crowded}
 use Rattle.probe.proofs.find_bucket.Statement.{statement}
 use Rattle.probe.proofs.find_bucket.Tie as tie
@@ -39,9 +38,7 @@ fits c = sym (c .before .tags-fit .ensures) ∙ c .if1 .taken
 
 facts : (c : tie.Then1 Inv-loop μ-loop)
     → (1 ≤ c .before .before .before .args .n) × (c .before .before .before .args .n ≤ 1048576) × (c .before .before .before .args .n ≤ length (c .before .before .before .args .tags .now))
-facts c =
-    let f = tags-fit-facts (c .before .before .before .args .n) (length (c .before .before .before .args .tags .now)) (fits c) in
-    (f .0, f .1, omega arith)
+facts c = tags-room (c .before .before .before .args .tags .now) (c .before .before .before .args .n) (fits c)
 
 -- in a turn, once the tag is read
 abbrev Here : Type 0

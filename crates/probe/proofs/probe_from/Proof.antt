@@ -1,6 +1,6 @@
 -- The walk passes the visits that are neither empty, tombstone nor hit, so where it stops the definition stops. Assumes nothing.
-use mathlib.Core.Path.{_≡_, refl, sym, ap, ap₂, _∙_}
-use mathlib.Core.Bool.{Bool, true, false, cond, _||_}
+use mathlib.Core.Path.{_≡_, refl, sym, _∙_}
+use mathlib.Core.Bool.{true, false}
 use mathlib.Core.List.{List}
 use Prim.Native.Nat.{ℕ, _+_, _-_, _*_, _%_, _≤_, _<_}
 use native.Mathlib.Nat.{mod-lt}
@@ -10,12 +10,11 @@ use borrow.Author.Needs.{needs}
 use borrow.Author.Tests.{eq-eqb, ne-eqb}
 use Rattle.answers.specs.Answers.{given}
 use Rattle.ht_file.specs.Places.{tagsFit}
-use Rattle.ht_file.proofs.Laws.{tags-fit-facts}
 use Rattle.meta_map.specs.Tags.{fullTag}
 use Rattle.probe.specs.declared.ProbeSequence.{ProbeSequence}
-use Rattle.probe.specs.Path.{isEmpty, isTombstone, isHit, stopAt, nowhere, firstStop, pathFrom, Probe, emptyAt, tombstoneAt, hitAt, closed, stopsProbe, probeSaw, probing, probeAnswer, Stop}
-use Rattle.probe.proofs.Tests.{empty-is, empty-not, tombstone-is, tombstone-not, free-not}
-use Rattle.probe.proofs.Walk.{Walking, walk-start, walk-below, walk-stop, walk-on, walk-end}
+use Rattle.probe.specs.Path.{stopAt, nowhere, firstStop, pathFrom, Probe, emptyAt, tombstoneAt, hitAt, closed, stopsProbe, probeSaw, probing, probeAnswer, Stop}
+use Rattle.probe.proofs.Tests.{empty-is, empty-not, tombstone-is, tombstone-not}
+use Rattle.probe.proofs.Walk.{tags-room, Walking, walk-start, walk-below, walk-stop, walk-on, walk-end}
 use Rattle.probe.proofs.probe_from.Statement.{statement}
 use Rattle.probe.proofs.probe_from.Tie as tie
 
@@ -37,9 +36,7 @@ fits c = sym (c .before .tags-fit .ensures) ∙ c .if1 .taken
 
 facts : (c : tie.Then1 Inv-loop μ-loop)
     → (1 ≤ c .before .before .before .args .n) × (c .before .before .before .args .n ≤ 1048576) × (c .before .before .before .args .n ≤ length (c .before .before .before .args .tags .now))
-facts c =
-    let f = tags-fit-facts (c .before .before .before .args .n) (length (c .before .before .before .args .tags .now)) (fits c) in
-    (f .0, f .1, omega arith)
+facts c = tags-room (c .before .before .before .args .tags .now) (c .before .before .before .args .n) (fits c)
 
 start-small : (c : tie.Then1 Inv-loop μ-loop) → c .before .before .before .args .k % (2 * c .before .before .before .args .n) < 2 * c .before .before .before .args .n
 start-small c = mod-lt (c .before .before .before .args .k) {m = 2 * c .before .before .before .args .n} (omega (arith, facts c))

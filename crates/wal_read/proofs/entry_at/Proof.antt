@@ -1,10 +1,9 @@
 -- The head tells what stands there; an update's fields are read where it says, and any other entry has none. Assumes nothing.
-use mathlib.Core.Path.{_≡_, refl, sym, ap, ap₂, _∙_}
+use mathlib.Core.Path.{refl, sym, ap, _∙_}
 use mathlib.Core.List.{List}
-use Prim.Native.Nat.{ℕ, _+_, _*_}
+use Prim.Native.Nat.{ℕ}
 use native.Mathlib.Omega.{arith}
 use borrow.Author.Needs.{needs}
-use lib.ListN.{length}
 use Rattle.answers.specs.Refusals.{numberOf}
 use Rattle.page_diff.specs.Pack.{packedBy}
 use Rattle.wal.specs.Reader.{nextAt}

@@ -1,6 +1,6 @@
 -- Each test answers as the definition does: the tests compare with the bytes left, so no sum wraps. Assumes nothing.
-use mathlib.Core.Path.{_≡_, refl, sym, ap, ap₂, _∙_}
-use mathlib.Core.Bool.{Bool, true, false}
+use mathlib.Core.Path.{_≡_, sym, ap, ap₂, _∙_}
+use mathlib.Core.Bool.{false}
 use mathlib.Core.List.{List}
 use Prim.Native.Nat.{ℕ, _+_, _-_, _*_, _≤_, _<_}
 use native.Mathlib.Omega.{arith}
@@ -8,12 +8,11 @@ use borrow.Author.Needs.{needs}
 use lib.ListN.{length, getD}
 use Rattle.answers.specs.Answers.{outcomeSaid}
 use Rattle.answers.specs.Refusals.{numberOf}
-use Rattle.answers.specs.declared.Outcome.{Outcome}
 use Rattle.blocks.specs.Blocks.{le, block}
 use Rattle.page_diff.specs.Diff.{countOf, reserved}
 use Rattle.page_diff.proofs.Walk.{plain-count}
-use Rattle.wal.specs.Reader.{diffAt, nextAt, updateOf}
-use Rattle.wal_read.specs.Head.{Seen, aClear, anUpdate, aRefusal, headOf}
+use Rattle.wal.specs.Reader.{diffAt, updateOf}
+use Rattle.wal_read.specs.Head.{aClear, anUpdate, aRefusal, headOf}
 use Rattle.wal_read.proofs.NextLaws.{next-past, next-end, next-unknown, next-clear-cut, next-clear, next-diff-cut, next-reserved, next-update-cut, next-update, read-refused, read-given, read-words}
 use Rattle.wal_read.proofs.head_at.Statement.{statement}
 use Rattle.wal_read.proofs.head_at.Tie as tie

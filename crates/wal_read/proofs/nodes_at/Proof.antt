@@ -1,11 +1,8 @@
 -- c nodes of the log stand at the table's front, over its zeros. Assumes nothing.
-use mathlib.Core.Path.{_≡_, sym, ap, _∙_}
-use mathlib.Core.List.{List}
-use Prim.Native.Nat.{ℕ, _+_, _-_, _*_, _≤_}
+use mathlib.Core.Path.{_≡_, ap, _∙_}
+use Prim.Native.Nat.{ℕ, _-_, _≤_}
 use native.Mathlib.Omega.{arith}
 use borrow.Author.Needs.{needs}
-use lib.ListN.{length, set}
-use Rattle.blocks.specs.Blocks.{block}
 use Rattle.wal.specs.Reader.{nodesFrom}
 use Rattle.wal_read.specs.Entry.{rows}
 use Rattle.wal_read.proofs.Nodes.{rows-none, rows-turn}

@@ -1,8 +1,7 @@
 -- Each test answers as the definition does, and the number of four bytes keeps its value in a wider type. Assumes nothing.
 use mathlib.Core.Path.{sym, ap, _∙_}
-use Prim.Native.Nat.{ℕ}
 use borrow.Author.Needs.{needs}
-use Rattle.answers.specs.Answers.{Answer, given}
+use Rattle.answers.specs.Answers.{given}
 use Rattle.wal_read.proofs.NextLaws.{start-pages, start-empty, start-missing, start-given}
 use Rattle.wal_read.proofs.set.Statement.{statement}
 use Rattle.wal_read.proofs.set.Tie as tie

@@ -1,0 +1,55 @@
+-- A remainder and a byte are small. Assumes nothing.
+use Prim.Native.Nat.{_-_, _≤_, _<_}
+use native.Mathlib.Omega.{arith}
+use borrow.Author.Needs.{needs}
+use Rattle.path_runs.proofs.weighed.Statement.{statement}
+use Rattle.path_runs.proofs.weighed.Tie as tie
+
+abbrev Inv-loop : tie.InvT-loop
+Inv-loop tags n sum₀ i₀ sum i = (i ≤ n) × (sum < 65776)
+
+abbrev μ-loop : tie.MeasureT-loop
+μ-loop tags n sum₀ i₀ sum i = n - i
+
+loop-holds : tie.Need-loop-holds Inv-loop μ-loop
+loop-holds c = search needs
+
+mul-sum : tie.Need-mul-sum Inv-loop μ-loop
+mul-sum c = search needs
+
+shared-slice-read-sum : tie.Need-shared-slice-read-sum Inv-loop μ-loop
+shared-slice-read-sum c = search needs
+
+cast-sum : tie.Need-cast-sum Inv-loop μ-loop
+cast-sum c = omega (arith, c .shared-slice-known .given (c .before .before .loop .i))
+
+add-sum : tie.Need-add-sum Inv-loop μ-loop
+add-sum c = omega (arith, c .shared-slice-known .given (c .before .before .loop .i))
+
+add-i : tie.Need-add-i Inv-loop μ-loop
+add-i c = search needs
+
+loop-less : tie.Need-loop-less Inv-loop μ-loop
+loop-less c = search needs
+
+loop-again : tie.Need-loop-again Inv-loop μ-loop
+loop-again c = omega (arith, c .shared-slice-known .given (c .before .before .loop .i))
+
+returns : tie.Need-returns Inv-loop μ-loop
+returns c = search needs
+
+pub weighed-spec : {M : Type 1} → statement M
+weighed-spec =
+    tie.close
+    (tie.spec
+    Inv-loop
+    μ-loop
+    loop-holds
+    mul-sum
+    shared-slice-read-sum
+    cast-sum
+    add-sum
+    add-i
+    loop-less
+    loop-again
+    returns)

@@ -1,0 +1,5 @@
+pub mod Decimal
+pub mod Writing
+pub mod ShownLaws
+pub mod AllLines
+pub mod Examples

@@ -1,0 +1,76 @@
+-- 01, 'Reading off a log': one line of `list` at a time, and how it goes on. Assumes nothing.
+use mathlib.Core.Bool.{cond}
+use mathlib.Core.List.{List, _++_}
+use Prim.Native.Nat.{ℕ, zero, suc}
+use lib.Dec.{leb, eqb}
+use lib.ListN.{length}
+use Rattle.answers.specs.Answers.{Answer, given, refused}
+use Rattle.answers.specs.Refusals.{numberOf}
+use Rattle.blocks.specs.Blocks.{put}
+use Rattle.wal.specs.Log.{startSize}
+use Rattle.wal.specs.Reader.{Next, next, ended, stopped, startOf, nextAt}
+use Rattle.wal_list.specs.Lines.{ascii, startLine, entryLine, endLine, refusedLine, most}
+use Rattle.wal_list.specs.declared.Line.{Line}
+use Rattle.wal_list.specs.declared.Line.the-variants as line
+
+-- a line, and the position of the record that has the next one, or that it is the last
+pub data Shown : Type 0 where
+  more : List ℕ → ℕ → Shown
+  last : List ℕ → Shown
+
+-- the first line
+abbrev pub started : Answer ℕ → Shown
+started (given sync) = more (startLine sync) startSize
+started (refused n) = last (refusedLine 0 n)
+
+unfoldable pub firstShown : List ℕ → Shown
+firstShown log = cond (leb (length log) most) (cond (eqb (length log) 0) (last (ascii "empty\n")) (started (startOf log))) (last (refusedLine 0 2))
+
+-- the number of a refused answer
+abbrev pub refusalOf : Answer ℕ → ℕ
+refusalOf (given n) = 0
+refusalOf (refused n) = n
+
+-- a later line: "A refusal prints the offset of the unreadable record, `refused`, number, and stops"
+abbrev pub nextShown : Next → ℕ → Shown
+nextShown (next e p) at = more (entryLine at e) p
+nextShown ended at = last (endLine at)
+nextShown (stopped n) at = last (refusedLine at n)
+
+-- the line of the record at a position; the start is at 0
+abbrev pub shownAt : List ℕ → ℕ → Shown
+shownAt log at = cond (eqb at 0) (firstShown log) (nextShown (nextAt log at) at)
+
+abbrev pub textOf : Shown → List ℕ
+textOf (more t p) = t
+textOf (last t) = t
+
+-- what a call says of the line that it fills in: how long it is, and where the next one is
+pub data Said : Type 0 where
+  on : ℕ → ℕ → Said
+  over : ℕ → Said
+
+abbrev pub saidOf : Shown → Said
+saidOf (more t p) = on (length t) p
+saidOf (last t) = over (length t)
+
+abbrev pub lineSaid : Line → Answer Said
+lineSaid (line.More n p) = given (on n p)
+lineSaid (line.Last n) = given (over n)
+lineSaid (line.Refused r) = refused (numberOf r)
+
+-- no line is longer than 80 bytes; "another lent slice has the wrong length": 2 where the buffer is shorter, which then stays
+abbrev pub lineAnswer : List ℕ → Shown → Answer Said
+lineAnswer buffer s = cond (leb 80 (length buffer)) (given (saidOf s)) (refused 2)
+
+abbrev pub lineAfter : List ℕ → Shown → List ℕ
+lineAfter buffer s = cond (leb 80 (length buffer)) (put buffer 0 (textOf s)) buffer
+
+-- the lines from a position on, one after the other, by a bound on how many follow
+abbrev pub andOn : Shown → (ℕ → List ℕ) → List ℕ
+andOn (more t p) rest = t ++ rest p
+andOn (last t) rest = t
+
+unfoldable pub linesIn : ℕ → List ℕ → ℕ → List ℕ
+linesIn zero log at = textOf (shownAt log at)
+linesIn (suc f) log at = andOn (shownAt log at) (linesIn f log)

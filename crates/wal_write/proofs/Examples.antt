@@ -1,0 +1,85 @@
+-- 01, 'Checked by hand': "capacity 4,096: 454 clears fit, the next is 13", of any slice of that capacity and any buckets. Assumes nothing.
+use mathlib.Core.Path.{_≡_, refl, ap, ap₂, _∙_}
+use mathlib.Core.Bool.{Bool, true, false, cond, _&&_}
+use mathlib.Core.List.{List, [], _∷_}
+use Prim.Native.Nat.{ℕ, suc, _+_, _*_, _≤_, _<_}
+use native.Mathlib.Omega.{arith}
+use lib.ListN.{length}
+use borrow.Author.Tests.{le-leb, lt-leb}
+use Rattle.answers.specs.Answers.{Answer, given, refused, accepted}
+use Rattle.wal.specs.Log.{clear, recordOf, startRecord}
+use Rattle.wal.specs.Writer.{capacity, position, beginAnswer, beginWriter, beginLog, clearAnswer}
+use Rattle.wal.specs.declared.Writer.{Writer}
+use Rattle.wal.specs.declared.Writer.the-variants.{Open}
+use Rattle.wal.proofs.RoundTrip.{same-capacity}
+use Rattle.wal_write.specs.Calls.{clearWriter, clearLog}
+use Rattle.wal_write.proofs.CallLaws.{begin-given, clear-tests, taken, no-room}
+use Rattle.wal_write.proofs.WriterLaws.{same-length}
+
+-- a writer and its log; after a begin; after a clear; after a clear of each of some buckets
+pub record At : Type 0 where
+  pub writer : Writer
+  pub log : List ℕ
+
+abbrev pub begun : At → ℕ → At
+begun s sync = record { writer = beginWriter (s .log) (s .writer); log = beginLog (s .log) sync }
+
+abbrev pub cleared : At → ℕ → At
+cleared s b = record { writer = clearWriter (s .log) (s .writer); log = clearLog (s .log) (s .writer) b }
+
+unfoldable pub allCleared : At → List ℕ → At
+allCleared s [] = s
+allCleared s (b ∷ bs) = allCleared (cleared s b) bs
+
+-- what the next clear answers, and whether each of some clears is taken
+abbrev pub nextClear : At → Answer (Unit {0})
+nextClear s = clearAnswer (s .log) (s .writer)
+
+unfoldable pub allTaken : At → List ℕ → Bool
+allTaken s [] = true
+allTaken s (b ∷ bs) = accepted (nextClear s) && allTaken (cleared s b) bs
+
+-- an open writer in a log of so many whole bytes
+pub record Stands (s : At) (pos cap : ℕ) : Type 0 where
+  pub is-open : s .writer ≡ Open pos
+  pub whole : capacity (s .log) ≡ cap
+
+module _ (s : At) (pos cap : ℕ) (h : Stands s pos cap) where
+  clear-taken : pos + 9 + 1 ≤ cap → nextClear s ≡ given tt
+  clear-taken l =
+      clear-tests (s .log) (s .writer)
+      ∙ taken (s .log) (s .writer) true false 9 (given tt) pos (h .is-open) refl refl (le-leb (pos + 9 + 1) (capacity (s .log)) (omega (arith, h .whole)))
+
+  clear-refused : cap < pos + 9 + 1 → nextClear s ≡ refused 13
+  clear-refused l =
+      clear-tests (s .log) (s .writer)
+      ∙ no-room (s .log) (s .writer) true false 9 (given tt) pos (h .is-open) refl refl (lt-leb (pos + 9 + 1) (capacity (s .log)) (omega (arith, h .whole)))
+
+  clear-moves : (b : ℕ) → pos + 9 + 1 ≤ cap → Stands (cleared s b) (pos + 9) cap
+  clear-moves b l = record {
+    is-open =
+        ap (λ (a : Answer (Unit {0})). cond (accepted a) (Open (position (s .writer) + 9)) (s .writer)) (clear-taken l)
+        ∙ ap (λ (v : Writer). Open (position v + 9)) (h .is-open);
+    whole = same-capacity (clearLog (s .log) (s .writer) b) (s .log) (same-length (nextClear s) (s .log) (position (s .writer)) (recordOf (clear b))) ∙ h .whole;
+  }
+
+clears-fit : (bs : List ℕ) (s : At) (pos cap : ℕ) → Stands s pos cap → pos + 9 * length bs + 1 ≤ cap → (allTaken s bs ≡ true) × Stands (allCleared s bs) (pos + 9 * length bs) cap
+unfolding allTaken allCleared
+clears-fit [] s pos cap h l = let z : pos ≡ pos + 9 * 0 = omega arith in (refl, record { is-open = h .is-open ∙ ap Open z; whole = h .whole })
+clears-fit (b ∷ bs) s pos cap h l =
+    let rest = clears-fit bs (cleared s b) (pos + 9) cap (clear-moves s pos cap h b (omega arith)) (omega arith) in
+    let z : pos + 9 + 9 * length bs ≡ pos + 9 * suc (length bs) = omega arith in (
+      ap₂ (λ (x y : Bool). x && y) (ap accepted (clear-taken s pos cap h (omega arith))) (rest .0),
+      record { is-open = rest .1 .is-open ∙ ap Open z; whole = rest .1 .whole },
+    )
+
+pub clears-by-hand : (s : At) (sync : ℕ) (bs : List ℕ) → capacity (s .log) ≡ 4096 → length bs ≡ 454
+    → (allTaken (begun s sync) bs ≡ true) × (nextClear (allCleared (begun s sync) bs) ≡ refused 13)
+clears-by-hand s sync bs e n =
+    let begins : beginAnswer (s .log) ≡ given tt = begin-given (s .log) (omega arith) in
+    let stands : Stands (begun s sync) 5 4096 = record {
+      is-open = ap (λ (a : Answer (Unit {0})). cond (accepted a) (Open 5) (s .writer)) begins;
+      whole = same-capacity (beginLog (s .log) sync) (s .log) (same-length (beginAnswer (s .log)) (s .log) 0 (startRecord sync)) ∙ e;
+    } in
+    let all = clears-fit bs (begun s sync) 5 4096 stands (omega arith) in
+    (all .0, clear-refused (allCleared (begun s sync) bs) (5 + 9 * length bs) 4096 (all .1) (omega arith))

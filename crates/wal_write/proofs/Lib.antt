@@ -1,0 +1,5 @@
+pub mod Bytes
+pub mod CallLaws
+pub mod WriterLaws
+pub mod PageUpdates
+pub mod Examples

@@ -1,0 +1,285 @@
+// The write path of a log, as the original's wal/write.rs. The state goes by value and the log is lent
+// at each call; a refused call leaves both as they were. A position is compared with what the slice has
+// left, so no sum wraps on one that no call answered.
+ghost use mathlib.Core.Path.{_≡_};
+ghost use mathlib.Core.Bool.{false};
+ghost use mathlib.Core.List.{_++_, map};
+ghost use Prim.Native.Nat.{_+_, _*_, _/_, _≤_};
+ghost use lib.Dec.{leb};
+ghost use lib.ListN.{length, take, replicate};
+ghost use Rattle.answers.specs.Refusals.{numberOf};
+ghost use Rattle.answers.specs.Answers.{refused, outcomeSaid, numberSaid};
+ghost use Rattle.blocks.specs.Blocks.{bytesOf, put};
+ghost use Rattle.page_diff.specs.Diff.{slots, countOf, reserved, bytesOfWords};
+ghost use Rattle.page_diff.specs.Pack.{nodeAt};
+ghost use Rattle.wal.specs.Log.{clear, mark, flat, recordOf, clearSize};
+ghost use Rattle.wal.specs.Writer.{beginAnswer, beginWriter, beginLog, clearAnswer, updateAnswer, finishAnswer, finishWriter, finishLog};
+ghost use Rattle.wal_write.specs.Calls.{roomIn, clearWriter, clearLog, updateWriter, updateLog, pageUpdateAnswer, pageUpdateWriter, pageUpdateLog};
+use answers::Number;
+use answers::Outcome;
+use answers::Refusal;
+use page_diff::Diff;
+use wal::Writer;
+
+// Where the diff of an update stands, counted from its mark.
+const DIFF_AT: usize = 33;
+
+// Where its nodes stand.
+const NODES_AT: usize = 49;
+
+// The bytes after its nodes.
+const TAIL_SIZE: usize = 16;
+
+// Where a page has its elided children.
+const ELIDED_AT: usize = 4056;
+
+// What a call answers, and the state after it.
+pub struct Written {
+    pub outcome: Outcome,
+    pub writer: Writer,
+}
+
+// What finish answers, the length of the log, and the state after it.
+pub struct FinishedAnswer {
+    pub answer: Number,
+    pub writer: Writer,
+}
+
+// Whether `size` bytes from `at` on, and the mark of the end after them, fit the whole pages of a log.
+fn room_at(log_len: usize, at: usize, size: usize) -> bool
+    ensures { λ r. ⌜ r ≡ leb (at + size + 1) («log_len» / 4096 * 4096) ⌝ }
+{
+    let capacity = log_len / wal::PAGE_SIZE * wal::PAGE_SIZE;
+    if capacity <= size {
+        return false;
+    }
+    at < capacity - size
+}
+
+// Whether a record of `size` bytes is taken where the writer stands, so that a caller can know 13
+// before it does anything else. A writer that is not open stands at 0.
+pub fn has_room(log_len: usize, w: Writer, size: usize) -> bool
+    ensures { λ r. ⌜ r ≡ roomIn «log_len» w size ⌝ }
+{
+    match w {
+        Writer::Fresh => room_at(log_len, 0, size),
+        Writer::Open(at) => room_at(log_len, at, size),
+        Writer::Finished(_) => room_at(log_len, 0, size),
+    }
+}
+
+// A refused call keeps the state.
+fn kept(w: Writer, why: Refusal) -> Written
+    ensures { λ r. ⌜ (outcomeSaid (r .outcome) ≡ refused (numberOf why)) × (r .writer ≡ w) ⌝ }
+{
+    Written {
+        outcome: Outcome::Refused(why),
+        writer: w,
+    }
+}
+
+// Starts a log, in any state: the start record at the front of a slice that holds a page, else 13.
+pub fn begin(log: &mut [u8], w: Writer, sync: u32) -> Written
+    ensures { λ r. ⌜ (outcomeSaid (r .outcome) ≡ beginAnswer (now (log .entry))) × ((r .writer ≡ beginWriter (now (log .entry)) w) × (now (log .exit) ≡ beginLog (now (log .entry)) sync)) ⌝ }
+{
+    if log.len() < wal::PAGE_SIZE {
+        return kept(w, Refusal::NoRoom);
+    }
+    log[0] = wal::WAL_ENTRY_TAG_START;
+    blocks::write_u32(log, 1, sync);
+    Written {
+        outcome: Outcome::Done,
+        writer: Writer::Open(wal::START_SIZE),
+    }
+}
+
+// The bytes of a clear.
+fn put_clear(log: &mut [u8], at: usize, bucket: u64)
+    requires { ⌜ at + clearSize ≤ length (now log) ⌝ }
+    ensures { λ _. ⌜ now (log .exit) ≡ put (now (log .entry)) at (recordOf (clear bucket)) ⌝ }
+{
+    log[at] = wal::WAL_ENTRY_TAG_CLEAR;
+    blocks::write_u64(log, at + 1, bucket);
+}
+
+// Writes a clear of any bucket number: 12, 13.
+pub fn write_clear(log: &mut [u8], w: Writer, bucket: u64) -> Written
+    ensures { λ r. ⌜ (outcomeSaid (r .outcome) ≡ clearAnswer (now (log .entry)) w) × ((r .writer ≡ clearWriter (now (log .entry)) w) × (now (log .exit) ≡ clearLog (now (log .entry)) w bucket)) ⌝ }
+{
+    let Writer::Open(at) = w else {
+        return kept(w, Refusal::WriterNotOpen);
+    };
+    if !room_at(log.len(), at, wal::CLEAR_SIZE) {
+        return kept(w, Refusal::NoRoom);
+    }
+    put_clear(log, at, bucket);
+    Written {
+        outcome: Outcome::Done,
+        writer: Writer::Open(at + wal::CLEAR_SIZE),
+    }
+}
+
+// The bytes of an update before its nodes: mark, id, diff.
+fn put_head(log: &mut [u8], at: usize, id: [u8; 32], d: Diff)
+    requires { ⌜ at + 49 ≤ length (now log) ⌝ }
+    ensures { λ _. ⌜ (now (log .exit) ≡ put (now (log .entry)) at (mark 4 ++ (id ++ bytesOfWords (d .words)))) × (length id ≡ 32) ⌝ }
+{
+    log[at] = wal::WAL_ENTRY_TAG_UPDATE;
+    blocks::put_32(log, at + 1, id);
+    blocks::put_16(log, at + DIFF_AT, page_diff::as_bytes(d));
+}
+
+// The first `held` nodes of a table.
+fn put_nodes(log: &mut [u8], at: usize, nodes: &[[u8; 32]; 126], held: usize)
+    requires { ⌜ (held ≤ 126) × (at + 32 * held ≤ length (now log)) ⌝ }
+    ensures { λ _. ⌜ (now (log .exit) ≡ put (now (log .entry)) at (flat (take held (now (nodes .entry))))) × (length (flat (take held (now (nodes .entry)))) ≡ 32 * held) ⌝ }
+{
+    let mut c = 0;
+    while c < held {
+        let n = nodes[c];
+        blocks::put_32(log, at + 32 * c, n);
+        c += 1;
+    }
+}
+
+// The nodes of a page's marked slots, in the slots' order.
+fn put_page_nodes(log: &mut [u8], at: usize, d: Diff, page: &[u8])
+    requires { ⌜ (reserved (d .words) ≡ false) × (at + 32 * countOf (d .words) ≤ length (now log)) ⌝ }
+    ensures { λ _. ⌜ now (log .exit) ≡ put (now (log .entry)) at (flat (map (nodeAt (now (page .entry))) (slots (d .words)))) ⌝ }
+{
+    let mut c = 0;
+    let mut left = d;
+    loop {
+        let next = page_diff::next_slot(left);
+        let s = next.slot;
+        if page_diff::NODES_PER_PAGE <= s {
+            return;
+        }
+        blocks::put_32(log, at + 32 * c, blocks::block_32(page, 32 * s));
+        c += 1;
+        left = next.rest;
+    }
+}
+
+// The bytes of an update after its nodes: the elided children, the bucket.
+fn put_tail(log: &mut [u8], at: usize, elided: [u8; 8], bucket: u64)
+    requires { ⌜ at + 16 ≤ length (now log) ⌝ }
+    ensures { λ _. ⌜ (now (log .exit) ≡ put (now (log .entry)) at (elided ++ bytesOf 8 bucket)) × (length elided ≡ 8) ⌝ }
+{
+    let bucket_at = at + 8;
+    blocks::put_8(log, at, elided);
+    blocks::write_u64(log, bucket_at, bucket);
+}
+
+// Writes an update with the first `held` nodes of a table: 12, 2 where that is not the diff's count, 4,
+// 13. Entries past the count are not looked at.
+pub fn write_update(
+    log: &mut [u8],
+    w: Writer,
+    id: [u8; 32],
+    d: Diff,
+    nodes: &[[u8; 32]; 126],
+    held: usize,
+    elided: [u8; 8],
+    bucket: u64,
+) -> Written
+    ensures { λ r. ⌜ (outcomeSaid (r .outcome) ≡ updateAnswer (now (log .entry)) w (d .words) held) × ((r .writer ≡ updateWriter (now (log .entry)) w (d .words) held) × (now (log .exit) ≡ updateLog (now (log .entry)) w id (d .words) (now (nodes .entry)) held elided bucket)) ⌝ }
+{
+    let Writer::Open(at) = w else {
+        return kept(w, Refusal::WriterNotOpen);
+    };
+    if page_diff::count(d) != held {
+        return kept(w, Refusal::LengthUnfit);
+    }
+    if page_diff::is_reserved(d) {
+        return kept(w, Refusal::DiffReserved);
+    }
+    let size = wal::UPDATE_SIZE + 32 * held;
+    if !room_at(log.len(), at, size) {
+        return kept(w, Refusal::NoRoom);
+    }
+    put_head(log, at, id, d);
+    put_nodes(log, at + NODES_AT, nodes, held);
+    put_tail(log, at + (size - TAIL_SIZE), elided, bucket);
+    Written {
+        outcome: Outcome::Done,
+        writer: Writer::Open(at + size),
+    }
+}
+
+// Writes the update of a page, with the marked nodes and the elided children that stand in it: 12, 2
+// where it is not 4,096 bytes, 4, 13. It is `write_update` of what is packed, and builds no table.
+pub fn write_page_update(
+    log: &mut [u8],
+    w: Writer,
+    id: [u8; 32],
+    d: Diff,
+    page: &[u8],
+    bucket: u64,
+) -> Written
+    ensures { λ r. ⌜ (outcomeSaid (r .outcome) ≡ pageUpdateAnswer (now (log .entry)) w (d .words) (now (page .entry))) × ((r .writer ≡ pageUpdateWriter (now (log .entry)) w (d .words) (now (page .entry))) × (now (log .exit) ≡ pageUpdateLog (now (log .entry)) w id (d .words) (now (page .entry)) bucket)) ⌝ }
+{
+    let Writer::Open(at) = w else {
+        return kept(w, Refusal::WriterNotOpen);
+    };
+    if page.len() != wal::PAGE_SIZE {
+        return kept(w, Refusal::LengthUnfit);
+    }
+    if page_diff::is_reserved(d) {
+        return kept(w, Refusal::DiffReserved);
+    }
+    let size = wal::UPDATE_SIZE + 32 * page_diff::count(d);
+    if !room_at(log.len(), at, size) {
+        return kept(w, Refusal::NoRoom);
+    }
+    put_head(log, at, id, d);
+    put_page_nodes(log, at + NODES_AT, d, page);
+    put_tail(
+        log,
+        at + (size - TAIL_SIZE),
+        blocks::block_8(page, ELIDED_AT),
+        bucket,
+    );
+    Written {
+        outcome: Outcome::Done,
+        writer: Writer::Open(at + size),
+    }
+}
+
+// `n` zeros from `at` on.
+fn put_zeros(log: &mut [u8], at: usize, n: usize)
+    requires { ⌜ at + n ≤ length (now log) ⌝ }
+    ensures { λ _. ⌜ now (log .exit) ≡ put (now (log .entry)) at (replicate n 0) ⌝ }
+{
+    let mut i = 0;
+    while i < n {
+        log[at + i] = 0;
+        i += 1;
+    }
+}
+
+// Ends the log, with zeros up to the next page, and answers its length: 12, 13. The slice past that
+// length stays as it is.
+pub fn finish(log: &mut [u8], w: Writer) -> FinishedAnswer
+    ensures { λ r. ⌜ (numberSaid (r .answer) ≡ finishAnswer (now (log .entry)) w) × ((r .writer ≡ finishWriter (now (log .entry)) w) × (now (log .exit) ≡ finishLog (now (log .entry)) w)) ⌝ }
+{
+    let Writer::Open(at) = w else {
+        return FinishedAnswer {
+            answer: Number::Refused(Refusal::WriterNotOpen),
+            writer: w,
+        };
+    };
+    if !room_at(log.len(), at, 0) {
+        return FinishedAnswer {
+            answer: Number::Refused(Refusal::NoRoom),
+            writer: w,
+        };
+    }
+    let len = (at / wal::PAGE_SIZE + 1) * wal::PAGE_SIZE;
+    log[at] = wal::WAL_ENTRY_TAG_END;
+    put_zeros(log, at + 1, len - (at + 1));
+    FinishedAnswer {
+        answer: Number::Is(len as u64),
+        writer: Writer::Finished(len),
+    }
+}
