@@ -154,20 +154,24 @@ pub fn line_at(log: &[u8], at: usize, line: &mut [u8]) -> Line
     Line::More { len, next }
 }
 
-// Writes the lines of a log, one after the other, and answers whether all of them were written.
-pub fn write_lines(fd: i32, log: &[u8]) -> bool {
+// Writes the lines of a log, one after the other, and stops where the file takes no more. It has no answer of
+// its own: which lines there are is `line_at`'s promise, and what reaches the file is the system's.
+pub fn write_lines(fd: i32, log: &[u8])
+    ensures { λ r. ⌜ r ≡ tt ⌝ }
+{
     let mut line = [0u8; LINE_SIZE];
     let mut at = 0;
     loop {
         let shown = line_at(log, at, &mut line);
         if let Line::Last { len } = shown {
-            return io::write_all(fd, &line[..len]);
+            io::write_all(fd, &line[..len]);
+            return;
         }
         let Line::More { len, next } = shown else {
-            return false;
+            return;
         };
         if !io::write_all(fd, &line[..len]) {
-            return false;
+            return;
         }
         at = next;
     }

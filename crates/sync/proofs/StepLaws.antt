@@ -1,0 +1,136 @@
+-- One change: its definition test by test, and what is left of a refused and of an accepted one. Assumes nothing.
+use mathlib.Core.Path.{_≡_, refl, sym, ap, ap₂, _∙_}
+use mathlib.Core.Bool.{Bool, true, false, cond}
+use mathlib.Core.List.{List, [], _∷_}
+use mathlib.Core.Logic.{⊎-elim}
+use Prim.Native.Nat.{ℕ, _+_}
+use native.Mathlib.Omega.{arith}
+use lib.Dec.{leb, eqb}
+use lib.ListN.{length}
+use types.Run.{OneOf}
+use denote.Enum.Declared.{tagOf}
+use borrow.Author.Tests.{eq-eqb, ne-eqb}
+use Rattle.answers.specs.Answers.{Answer, given, refused}
+use Rattle.blocks.specs.Blocks.{put}
+use Rattle.ht_file.specs.Places.{tagPages, tagsFit}
+use Rattle.page_diff.specs.Diff.{countOf, reserved}
+use Rattle.wal.specs.Log.{clear, recordOf, clearSize, updateSize}
+use Rattle.wal.specs.Writer.{position, ifOpen, clearAnswer, recordLog, recordWriter}
+use Rattle.wal.specs.declared.Writer.{Writer}
+use Rattle.wal.specs.declared.Writer.the-variants.{Fresh, Open, Finished}
+use Rattle.wal.proofs.Writer as WriterT
+use Rattle.wal_write.specs.Calls.{roomIn, clearWriter, clearLog, pageUpdate, pageUpdateAnswer, pageUpdateWriter, pageUpdateLog}
+use Rattle.wal_write.proofs.CallLaws.{NotOpen, tested, taken, clear-tests, page-tests}
+use Rattle.sync.specs.Change.{Mem, memOf, Does, clears, updates, allocates, doesOf, Effect, cleared, updated, allocated, bucketOf, afterDoes, effectOf, entryBy, sizeBy, tagsBy, marksBy, cellsBy, occupiedBy, memBy, stateOf, stateBy, pageNumber, outlookSaid}
+use Rattle.sync.specs.declared.Change.{Change}
+use Rattle.sync.specs.declared.SyncState.{SyncState}
+use Rattle.sync.specs.declared.Outlook.{Outlook}
+
+-- what a `let .. else` tells after it
+abbrev pub Opened : Writer → Type 0
+Opened w = OneOf (1 ∷ []) (tagOf WriterT.the-type w)
+
+module _ {A : Type 0} (a : Answer A) where
+  open-goes : (w : Writer) → Opened w → ifOpen w a ≡ a
+  open-goes Fresh o = absurd (omega arith)
+  open-goes (Open p) o = refl
+  open-goes (Finished n) o = absurd (omega arith)
+
+  closed-stops : (w : Writer) → NotOpen w → ifOpen w a ≡ refused 12
+  closed-stops Fresh o = refl
+  closed-stops (Open p) o = absurd (⊎-elim (λ (e : 1 ≡ 0). omega arith) (λ (e : 1 ≡ 2). omega arith) o)
+  closed-stops (Finished n) o = refl
+
+-- the two records that a change writes are taken where there is room
+module _ (w : Writer) (l : List ℕ) where
+  pub clear-taken : Opened w → roomIn (length l) w clearSize ≡ true → clearAnswer l w ≡ given tt
+  clear-taken o r = clear-tests l w ∙ go w o r
+    where
+      go : (v : Writer) → Opened v → roomIn (length l) v clearSize ≡ true → tested l v true false clearSize (given (tt {0})) ≡ given (tt {0})
+      go Fresh o r = absurd (omega arith)
+      go (Open p) o r = taken l (Open p) true false clearSize (given tt) p refl refl refl r
+      go (Finished n) o r = absurd (omega arith)
+
+  pub page-taken : (ws page : List ℕ) → Opened w → length page ≡ 4096 → reserved ws ≡ false → roomIn (length l) w (updateSize (countOf ws)) ≡ true → pageUpdateAnswer l w ws page ≡ given tt
+  page-taken ws page o k f r = page-tests l w ws page ∙ go w o r
+    where
+      go : (v : Writer) → Opened v → roomIn (length l) v (updateSize (countOf ws)) ≡ true → tested l v (eqb (length page) 4096) (reserved ws) (updateSize (countOf ws)) (given (tt {0})) ≡ given (tt {0})
+      go Fresh o r = absurd (omega arith)
+      go (Open p) o r = taken l (Open p) (eqb (length page) 4096) (reserved ws) (updateSize (countOf ws)) (given tt) p refl (eq-eqb (length page) 4096 k) f r
+      go (Finished n) o r = absurd (omega arith)
+
+  -- so this is the state, and this the log
+  module _ (h : clearAnswer l w ≡ given tt) where
+    pub clear-state : clearWriter l w ≡ Open (position w + clearSize)
+    clear-state = ap (λ (a : Answer (Unit {0})). recordWriter a w clearSize) h
+
+    pub clear-bytes : (b : ℕ) → clearLog l w b ≡ put l (position w) (recordOf (clear b))
+    clear-bytes b = ap (λ (a : Answer (Unit {0})). recordLog a l w (recordOf (clear b))) h
+
+  module _ (ws page : List ℕ) (h : pageUpdateAnswer l w ws page ≡ given tt) where
+    pub page-state : pageUpdateWriter l w ws page ≡ Open (position w + updateSize (countOf ws))
+    page-state = ap (λ (a : Answer (Unit {0})). recordWriter a w (updateSize (countOf ws))) h
+
+    pub page-bytes : (id : List ℕ) (b : ℕ) → pageUpdateLog l w id ws page b ≡ put l (position w) (recordOf (pageUpdate id ws page b))
+    page-bytes id b = ap (λ (a : Answer (Unit {0})). recordLog a l w (recordOf (pageUpdate id ws page b))) h
+
+module _ (st : SyncState) (t ks cs l page : List ℕ) (c : Change) where
+  abbrev effect : Answer Effect
+  effect = effectOf st (memOf t ks cs l) page c
+
+  abbrev ahead : Answer Effect
+  ahead = afterDoes st (memOf t ks cs l) c (doesOf (st .n) t cs c)
+
+  -- ---- the definition, test by test
+  pub step-unfit : tagsFit (st .n) (length t) ≡ false → effect ≡ refused 1
+  unfolding effectOf
+  step-unfit h = simp h
+
+  pub step-page : tagsFit (st .n) (length t) ≡ true → (length page ≡ 4096 → ⊥) → effect ≡ refused 2
+  unfolding effectOf
+  step-page h p = simp (h, ne-eqb (length page) 4096 p)
+
+  pub step-marks : tagsFit (st .n) (length t) ≡ true → length page ≡ 4096 → (length ks ≡ tagPages (st .n) → ⊥) → effect ≡ refused 2
+  unfolding effectOf
+  step-marks h p k = simp (h, eq-eqb (length page) 4096 p, ne-eqb (length ks) (tagPages (st .n)) k)
+
+  by-writer : tagsFit (st .n) (length t) ≡ true → length page ≡ 4096 → length ks ≡ tagPages (st .n) → effect ≡ ifOpen (st .writer) ahead
+  unfolding effectOf
+  by-writer h p k = simp (h, eq-eqb (length page) 4096 p, eq-eqb (length ks) (tagPages (st .n)) k)
+
+  pub step-closed : tagsFit (st .n) (length t) ≡ true → length page ≡ 4096 → length ks ≡ tagPages (st .n) → NotOpen (st .writer) → effect ≡ refused 12
+  step-closed h p k o = by-writer h p k ∙ closed-stops ahead (st .writer) o
+
+  -- looking ahead does not see the marks
+  same-ahead : (a : Answer Does) → afterDoes st (memOf t [] cs l) c a ≡ afterDoes st (memOf t ks cs l) c a
+  same-ahead (refused k) = refl
+  same-ahead (given (clears b)) = refl
+  same-ahead (given (updates b)) = refl
+  same-ahead (given allocates) = refl
+
+  pub step-ahead : tagsFit (st .n) (length t) ≡ true → length page ≡ 4096 → length ks ≡ tagPages (st .n) → Opened (st .writer) → (o : Outlook) → outlookSaid o ≡ afterDoes st (memOf t [] cs l) c (doesOf (st .n) t cs c) → effect ≡ outlookSaid o
+  step-ahead h p k w o s = by-writer h p k ∙ open-goes ahead (st .writer) w ∙ sym (s ∙ same-ahead (doesOf (st .n) t cs c))
+
+  -- ---- what is left
+  abbrev pub Left : Answer (ℕ × ℕ) → SyncState → Mem → Type 0
+  Left said s m = (said ≡ pageNumber st effect) × ((s ≡ stateBy effect st c) × (m ≡ memBy effect st (memOf t ks cs l) page c))
+
+  pub refused-left : (k : ℕ) (said : Answer (ℕ × ℕ)) (s : SyncState) → effect ≡ refused k → said ≡ refused k → s ≡ st → Left said s (memOf t ks cs l)
+  refused-left k said s e a b = (
+    a ∙ sym (ap (pageNumber st) e),
+    (
+      b ∙ sym (ap (λ (x : Answer Effect). stateBy x st c) e),
+      sym (ap (λ (x : Answer Effect). memBy x st (memOf t ks cs l) page c) e),
+    ),
+  )
+
+  pub given-left : (e : Effect) (said : Answer (ℕ × ℕ)) (s : SyncState) (t′ ks′ cs′ l′ : List ℕ) → effect ≡ given e → said ≡ given (bucketOf e, tagPages (st .n) + bucketOf e) → s ≡ stateOf (st .n) (Open (position (st .writer) + sizeBy c e)) (occupiedBy e (st .occupied)) → t′ ≡ tagsBy e (c .hash) t → ks′ ≡ marksBy e ks → cs′ ≡ cellsBy e (c .place) cs → l′ ≡ put l (position (st .writer)) (recordOf (entryBy c page e)) → Left said s (memOf t′ ks′ cs′ l′)
+  given-left e said s t′ ks′ cs′ l′ h a b et ek ec el = (
+    a ∙ sym (ap (pageNumber st) h),
+    (
+      b ∙ sym (ap (λ (x : Answer Effect). stateBy x st c) h),
+      ap₂ (λ (x y : List ℕ). memOf x y cs′ l′) et ek
+          ∙ ap₂ (λ (x y : List ℕ). memOf (tagsBy e (c .hash) t) (marksBy e ks) x y) ec el
+          ∙ sym (ap (λ (x : Answer Effect). memBy x st (memOf t ks cs l) page c) h),
+    ),
+  )

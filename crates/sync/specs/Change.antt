@@ -1,0 +1,222 @@
+-- 01, 'Sync': what one change does. Assumes nothing.
+use mathlib.Core.Path.{_≡_}
+use mathlib.Core.Bool.{Bool, true, false, cond, _&&_}
+use mathlib.Core.List.{List, [], _∷_, map}
+use Prim.Native.Nat.{ℕ, _+_, _-_, _*_, _/_, _^_, _<_, min}
+use lib.Dec.{ltb, eqb}
+use lib.ListN.{length, getD, set}
+use Rattle.answers.specs.Answers.{Answer, given, refused}
+use Rattle.answers.specs.Refusals.{numberOf}
+use Rattle.blocks.specs.Blocks.{block, put}
+use Rattle.ht_file.specs.Places.{tagPages, tagsFit}
+use Rattle.meta_map.specs.Tags.{full, kindOf, isKind, fullTag}
+use Rattle.page_diff.specs.Diff.{marked, slots, countOf, reserved}
+use Rattle.page_diff.specs.Pack.{nodeAt}
+use Rattle.probe.specs.Path.{allocating, hitLimit}
+use Rattle.wal.specs.Log.{Entry, clear, update, recordOf, clearSize, updateSize}
+use Rattle.wal.specs.Writer.{position, ifOpen, ifRoom}
+use Rattle.wal.specs.declared.Writer.{Writer}
+use Rattle.wal.specs.declared.Writer.the-variants.{Fresh, Open, Finished}
+use Rattle.sync.specs.declared.Change.{Change}
+use Rattle.sync.specs.declared.Where.{Where}
+use Rattle.sync.specs.declared.Where.the-variants.{Known, Fresh as FreshPage, Cell}
+use Rattle.sync.specs.declared.SyncState.{SyncState}
+use Rattle.sync.specs.declared.Name.{Name}
+use Rattle.sync.specs.declared.Name.the-variants as N
+use Rattle.sync.specs.declared.Planned.{Planned}
+use Rattle.sync.specs.declared.Planned.the-variants as P
+use Rattle.sync.specs.declared.Outlook.{Outlook}
+use Rattle.sync.specs.declared.Outlook.the-variants as O
+use Rattle.wal_write.specs.Calls.{roomIn}
+use Rattle.sync.specs.declared.Taken.{Taken}
+use Rattle.sync.specs.declared.Taken.the-variants as taken
+
+-- what a change is lent and may change
+pub record Mem : Type 0 where
+  pub tags : List ℕ
+  pub marks : List ℕ
+  pub cells : List ℕ
+  pub log : List ℕ
+
+abbrev pub memOf : List ℕ → List ℕ → List ℕ → List ℕ → Mem
+memOf t k c l = record { tags = t; marks = k; cells = c; log = l }
+
+-- the bucket that a change names, if it names one
+pub data Named : Type 0 where
+  bucket : ℕ → Named
+  none : Named
+
+-- "Lent cells are u64, and 2^64-1 means unset"
+abbrev pub cellNames : ℕ → Named
+cellNames v = cond (eqb v (2 ^ 64 - 1)) none (bucket v)
+
+-- "where (known b, fresh, or cell i)"; "cell index 2"
+abbrev pub namedBy : Where → List ℕ → Answer Named
+namedBy (Known b) cells = given (bucket b)
+namedBy FreshPage cells = given none
+namedBy (Cell i) cells = cond (ltb i (length cells)) (given (cellNames (getD cells i 0))) (refused 2)
+
+-- the tag rule: "Cleared diff: [..] its tag full"; "Else: known, or a set cell, needs that tag to be the hash's"
+abbrev pub tagFits : Bool → ℕ → ℕ → Bool
+tagFits true h t = isKind full (kindOf t)
+tagFits false h t = eqb t (fullTag h)
+
+-- what a change is to do
+pub data Does : Type 0 where
+  clears updates : ℕ → Does
+  allocates : Does
+
+abbrev pub doesWith : Bool → ℕ → Does
+doesWith true b = clears b
+doesWith false b = updates b
+
+-- "9, 14": a named bucket inside the table, its tag right; "a clear without a bucket" is 14
+abbrev pub byNamed : Bool → ℕ → List ℕ → ℕ → Answer Named → Answer Does
+byNamed clearing n tags h (refused k) = refused k
+byNamed clearing n tags h (given (bucket b)) =
+    cond (ltb b n) (cond (tagFits clearing h (getD tags b 0)) (given (doesWith clearing b)) (refused 14)) (refused 9)
+byNamed clearing n tags h (given none) = cond clearing (refused 14) (given allocates)
+
+-- "each change: 4, cell index 2, 9, 14": bit 126 is never allowed, bit 127 makes it a clearing change
+unfoldable pub doesOf : ℕ → List ℕ → List ℕ → Change → Answer Does
+doesOf n tags cells c =
+    cond (marked (c .diff .words) 126) (refused 4) (byNamed (marked (c .diff .words) 127) n tags (c .hash) (namedBy (c .place) cells))
+
+-- what an accepted change has done, and to which bucket
+pub data Effect : Type 0 where
+  cleared updated allocated : ℕ → Effect
+
+abbrev pub bucketOf : Effect → ℕ
+bucketOf (cleared b) = b
+bucketOf (updated b) = b
+bucketOf (allocated b) = b
+
+abbrev pub byBucket : Answer ℕ → Answer Effect
+byBucket (given b) = given (allocated b)
+byBucket (refused k) = refused k
+
+-- "13, 10 or 11": the room is tested before the bucket is sought
+abbrev pub afterDoes : SyncState → Mem → Change → Answer Does → Answer Effect
+afterDoes st m c (refused k) = refused k
+afterDoes st m c (given (clears b)) = ifRoom (m .log) (st .writer) clearSize (given (cleared b))
+afterDoes st m c (given (updates b)) = ifRoom (m .log) (st .writer) (updateSize (countOf (c .diff .words))) (given (updated b))
+afterDoes st m c (given allocates) =
+    ifRoom (m .log) (st .writer) (updateSize (countOf (c .diff .words))) (byBucket (allocating hitLimit (m .tags) (st .n) (c .hash)))
+
+-- the single step's own refusals first: 1 for the tags, 2 for the page and the marks, 12 for the writer
+unfoldable pub effectOf : SyncState → Mem → List ℕ → Change → Answer Effect
+unfolding doesOf
+effectOf st m page c =
+    cond (tagsFit (st .n) (length (m .tags)))
+    (cond (eqb (length page) 4096 && eqb (length (m .marks)) (tagPages (st .n)))
+    (ifOpen (st .writer) (afterDoes st m c (doesOf (st .n) (m .tags) (m .cells) c)))
+    (refused 2))
+    (refused 1)
+
+-- "a clear is logged"; "An update is logged, with the record's id and the elided bytes that stand in its page"
+abbrev pub updateBy : Change → List ℕ → ℕ → Entry
+updateBy c page b =
+    update (c .id) (c .diff .words) (map (nodeAt page) (slots (c .diff .words))) (block 8 page 4056) b
+
+abbrev pub entryBy : Change → List ℕ → Effect → Entry
+entryBy c page (cleared b) = clear b
+entryBy c page (updated b) = updateBy c page b
+entryBy c page (allocated b) = updateBy c page b
+
+abbrev pub sizeBy : Change → Effect → ℕ
+sizeBy c (cleared b) = clearSize
+sizeBy c (updated b) = updateSize (countOf (c .diff .words))
+sizeBy c (allocated b) = updateSize (countOf (c .diff .words))
+
+-- "Tag becomes a tombstone"; allocation "writes the full tag"
+abbrev pub tagsBy : Effect → ℕ → List ℕ → List ℕ
+tagsBy (cleared b) h tags = set tags b 0x7F
+tagsBy (updated b) h tags = tags
+tagsBy (allocated b) h tags = set tags b (fullTag h)
+
+-- "A tag written sets its page's mark to 1"
+abbrev pub marksBy : Effect → List ℕ → List ℕ
+marksBy (cleared b) marks = set marks (b / 4096) 1
+marksBy (updated b) marks = marks
+marksBy (allocated b) marks = set marks (b / 4096) 1
+
+-- "an unset cell, allocates (the cell then has the bucket)"
+abbrev pub cellsAt : Where → ℕ → List ℕ → List ℕ
+cellsAt (Known k) b cells = cells
+cellsAt FreshPage b cells = cells
+cellsAt (Cell i) b cells = set cells i b
+
+abbrev pub cellsBy : Effect → Where → List ℕ → List ℕ
+cellsBy (cleared b) w cells = cells
+cellsBy (updated b) w cells = cells
+cellsBy (allocated b) w cells = cellsAt w b cells
+
+-- "occupied falls by one", "occupied rises by one"; a false number that was lent stays within its type
+abbrev pub occupiedBy : Effect → ℕ → ℕ
+occupiedBy (cleared b) o = o - 1
+occupiedBy (updated b) o = o
+occupiedBy (allocated b) o = min (o + 1) (2 ^ 64 - 1)
+
+-- what an accepted change leaves; a refused one leaves all
+abbrev pub tagsIf : Answer Effect → ℕ → List ℕ → List ℕ
+tagsIf (refused k) h tags = tags
+tagsIf (given e) h tags = tagsBy e h tags
+
+abbrev pub marksIf : Answer Effect → List ℕ → List ℕ
+marksIf (refused k) marks = marks
+marksIf (given e) marks = marksBy e marks
+
+abbrev pub cellsIf : Answer Effect → Where → List ℕ → List ℕ
+cellsIf (refused k) w cells = cells
+cellsIf (given e) w cells = cellsBy e w cells
+
+abbrev pub logIf : Answer Effect → Writer → Change → List ℕ → List ℕ → List ℕ
+logIf (refused k) w c page log = log
+logIf (given e) w c page log = put log (position w) (recordOf (entryBy c page e))
+
+abbrev pub memBy : Answer Effect → SyncState → Mem → List ℕ → Change → Mem
+memBy a st m page c =
+    memOf (tagsIf a (c .hash) (m .tags)) (marksIf a (m .marks)) (cellsIf a (c .place) (m .cells)) (logIf a (st .writer) c page (m .log))
+
+abbrev pub stateOf : ℕ → Writer → ℕ → SyncState
+stateOf n w o = record { n = n; writer = w; occupied = o }
+
+abbrev pub stateBy : Answer Effect → SyncState → Change → SyncState
+stateBy (refused k) st c = st
+stateBy (given e) st c = stateOf (st .n) (Open (position (st .writer) + sizeBy c e)) (occupiedBy e (st .occupied))
+
+-- "Each step answers bucket and page number M+b"
+abbrev pub pageNumber : SyncState → Answer Effect → Answer (ℕ × ℕ)
+pageNumber st (refused k) = refused k
+pageNumber st (given e) = given (bucketOf e, tagPages (st .n) + bucketOf e)
+
+abbrev pub takenSaid : Taken → Answer (ℕ × ℕ)
+takenSaid (taken.At b p) = given (b, p)
+takenSaid (taken.Refused r) = refused (numberOf r)
+
+-- what the code's inner answers say
+abbrev pub nameSaid : Name → Answer Named
+nameSaid (N.Bucket b) = given (bucket b)
+nameSaid N.None = given none
+nameSaid (N.Refused r) = refused (numberOf r)
+
+abbrev pub plannedSaid : Planned → Answer Does
+plannedSaid (P.Clears b) = given (clears b)
+plannedSaid (P.Updates b) = given (updates b)
+plannedSaid P.Allocates = given allocates
+plannedSaid (P.Refused r) = refused (numberOf r)
+
+abbrev pub outlookSaid : Outlook → Answer Effect
+outlookSaid (O.Clears b) = given (cleared b)
+outlookSaid (O.Updates b) = given (updated b)
+outlookSaid (O.Takes b) = given (allocated b)
+outlookSaid (O.Refused r) = refused (numberOf r)
+
+-- what an outlook that is no refusal rests on: the bucket is inside the table, its record has room, and an update's diff marks nodes alone
+abbrev pub outlookFits : Outlook → SyncState → List ℕ → Change → Type 0
+outlookFits (O.Clears b) st log c = (b < st .n) × (roomIn (length log) (st .writer) clearSize ≡ true)
+outlookFits (O.Updates b) st log c =
+    (b < st .n) × (roomIn (length log) (st .writer) (updateSize (countOf (c .diff .words))) ≡ true) × (reserved (c .diff .words) ≡ false)
+outlookFits (O.Takes b) st log c =
+    (b < st .n) × (roomIn (length log) (st .writer) (updateSize (countOf (c .diff .words))) ≡ true) × (reserved (c .diff .words) ≡ false)
+outlookFits (O.Refused r) st log c = Unit {0}

@@ -1,0 +1,161 @@
+-- 01, 'Sync': the changes one after another, and the whole sync. Assumes nothing.
+use mathlib.Core.Bool.{Bool, true, false, cond, _&&_}
+use mathlib.Core.List.{List, [], _∷_}
+use Prim.Native.Nat.{ℕ, _+_, _*_, _/_}
+use lib.Dec.{ltb, eqb}
+use lib.ListN.{length, take, drop, replicate}
+use Rattle.answers.specs.Answers.{Answer, given, refused}
+use Rattle.answers.specs.Refusals.{numberOf}
+use Rattle.ht_file.specs.Places.{tagPages, tagsFit}
+use Rattle.meta_map.specs.Tags.{full, countOf}
+use Rattle.wal.specs.Log.{startSize}
+use Rattle.wal.specs.Writer.{beginAnswer, beginLog, finishAnswer, finishLog, finishWriter}
+use Rattle.wal.specs.declared.Writer.{Writer}
+use Rattle.wal.specs.declared.Writer.the-variants.{Fresh, Open, Finished}
+use Rattle.sync.specs.Change.{Mem, memOf, Effect, effectOf, memBy, stateBy}
+use Rattle.sync.specs.declared.Change.{Change}
+use Rattle.sync.specs.declared.SyncState.{SyncState}
+use Rattle.sync.specs.declared.Walked.{Walked}
+use Rattle.sync.specs.declared.Walk.{Walk}
+use Rattle.sync.specs.declared.Walk.the-variants as walk
+use Rattle.sync.specs.declared.Begun.{Begun}
+use Rattle.sync.specs.declared.Begun.the-variants as begun
+use Rattle.sync.specs.declared.Synced.{Synced}
+use Rattle.sync.specs.declared.Synced.the-variants as synced
+
+-- change j's page: "with the pages in one slice"; none where they do not reach that far
+abbrev pub pageOf : List ℕ → ℕ → List ℕ
+pageOf pages j = cond (ltb j (length pages / 4096)) (take 4096 (drop (4096 * j) pages)) []
+
+-- where the changes came to: all of them, or refused at one of them ("counted from 0") with a number
+pub data Came : Type 0 where
+  through : ℕ → Came
+  refusedAt : ℕ → ℕ → Came
+
+pub record CameTo : Type 0 where
+  pub came : Came
+  pub state : SyncState
+
+abbrev pub cameBy : Answer Effect → ℕ → Came
+cameBy (given e) j = through j
+cameBy (refused k) j = refusedAt j k
+
+-- change j, on what the changes before it left
+unfoldable pub changeAt : Mem → List ℕ → Change → ℕ → SyncState → CameTo
+changeAt m pages c j st =
+    record { came = cameBy (effectOf st m (pageOf pages j) c) j; state = stateBy (effectOf st m (pageOf pages j) c) st c }
+
+unfoldable pub changeMem : Mem → List ℕ → Change → ℕ → SyncState → Mem
+changeMem m pages c j st = memBy (effectOf st m (pageOf pages j) c) st m (pageOf pages j) c
+
+-- after a change: on to the rest, or stop there
+abbrev pub orRest : Came → CameTo → CameTo → CameTo
+orRest (through j) r rest = rest
+orRest (refusedAt j k) r rest = r
+
+abbrev pub orMem : Came → Mem → Mem → Mem
+orMem (through j) m rest = rest
+orMem (refusedAt j k) m rest = m
+
+-- "the changes one after another": where they come to, and what they leave
+unfoldable pub allOf : Mem → List ℕ → List Change → ℕ → SyncState → CameTo
+allOf m pages [] j st = record { came = through j; state = st }
+allOf m pages (c ∷ cs) j st =
+    orRest (changeAt m pages c j st .came) (changeAt m pages c j st)
+    (allOf (changeMem m pages c j st) pages cs (j + 1) (changeAt m pages c j st .state))
+
+unfoldable pub memAll : Mem → List ℕ → List Change → ℕ → SyncState → Mem
+memAll m pages [] j st = m
+memAll m pages (c ∷ cs) j st =
+    orMem (changeAt m pages c j st .came) (changeMem m pages c j st)
+    (memAll (changeMem m pages c j st) pages cs (j + 1) (changeAt m pages c j st .state))
+
+abbrev pub walkSaid : Walk → Came
+walkSaid (walk.Through j) = through j
+walkSaid (walk.RefusedAt j r) = refusedAt j (numberOf r)
+
+abbrev pub walkedSaid : Walked → CameTo
+walkedSaid w = record { came = walkSaid (w .walk); state = w .state }
+
+-- ---- the whole sync
+-- "Sync: 1, 2 unless there are 4,096 page bytes per record and M marks (any number of cells will do), 13 for begin"
+unfoldable pub beforeChanges : ℕ → Mem → List ℕ → ℕ → Answer (Unit {0})
+beforeChanges n m pages count =
+    cond (tagsFit n (length (m .tags)))
+    (cond (eqb (length pages) (4096 * count) && eqb (length (m .marks)) (tagPages n)) (beginAnswer (m .log)) (refused 2))
+    (refused 1)
+
+-- "marks .. zeroed at the start"; "Occupied starts as the number of full tags"; the log is begun
+abbrev pub startMem : Mem → ℕ → Mem
+startMem m sync = memOf (m .tags) (replicate (length (m .marks)) 0) (m .cells) (beginLog (m .log) sync)
+
+abbrev pub startState : ℕ → Mem → SyncState
+startState n m = record { n = n; writer = Open startSize; occupied = countOf full (m .tags) n }
+
+-- what the whole sync says: occupied and the log's length; a refusal; or a refusal at change j
+pub data SyncSaid : Type 0 where
+  saidDone : ℕ → ℕ → SyncSaid
+  saidRefused : ℕ → SyncSaid
+  saidRefusedAt : ℕ → ℕ → SyncSaid
+
+abbrev pub saidFinish : Answer ℕ → ℕ → SyncSaid
+saidFinish (given len) occupied = saidDone occupied len
+saidFinish (refused k) occupied = saidRefused k
+
+abbrev pub saidBy : Came → SyncState → Mem → SyncSaid
+saidBy (through j) st m = saidFinish (finishAnswer (m .log) (st .writer)) (st .occupied)
+saidBy (refusedAt j k) st m = saidRefusedAt j k
+
+-- "finishes the log", or its "writer becomes fresh"
+abbrev pub logAfter : Came → SyncState → Mem → List ℕ
+logAfter (through j) st m = finishLog (m .log) (st .writer)
+logAfter (refusedAt j k) st m = m .log
+
+abbrev pub writerAfter : Came → SyncState → Mem → Writer
+writerAfter (through j) st m = finishWriter (m .log) (st .writer)
+writerAfter (refusedAt j k) st m = Fresh
+
+abbrev pub syncedSaid : Synced → SyncSaid
+syncedSaid (synced.Done o l) = saidDone o l
+syncedSaid (synced.Refused r) = saidRefused (numberOf r)
+syncedSaid (synced.RefusedAt j r) = saidRefusedAt j (numberOf r)
+
+-- the changes from the start
+abbrev pub came : ℕ → Mem → List ℕ → List Change → ℕ → CameTo
+came n m pages cs sync = allOf (startMem m sync) pages cs 0 (startState n m)
+
+abbrev pub left : ℕ → Mem → List ℕ → List Change → ℕ → Mem
+left n m pages cs sync = memAll (startMem m sync) pages cs 0 (startState n m)
+
+abbrev pub saidIf : Answer (Unit {0}) → SyncSaid → SyncSaid
+saidIf (given u) s = s
+saidIf (refused k) s = saidRefused k
+
+abbrev pub keptIf : {A : Type 0} → Answer (Unit {0}) → A → A → A
+keptIf (given u) before after = after
+keptIf (refused k) before after = before
+
+unfoldable pub syncSays : ℕ → Mem → List ℕ → List Change → ℕ → SyncSaid
+syncSays n m pages cs sync =
+    saidIf (beforeChanges n m pages (length cs)) (saidBy (came n m pages cs sync .came) (came n m pages cs sync .state) (left n m pages cs sync))
+
+-- "Only tags, marks, cells and the log change"
+unfoldable pub syncMem : ℕ → Mem → List ℕ → List Change → ℕ → Mem
+syncMem n m pages cs sync =
+    let l : Mem = left n m pages cs sync in
+    keptIf (beforeChanges n m pages (length cs)) m
+    (memOf (l .tags) (l .marks) (l .cells) (logAfter (came n m pages cs sync .came) (came n m pages cs sync .state) l))
+
+unfoldable pub syncWriter : ℕ → Mem → List ℕ → List Change → ℕ → Writer → Writer
+syncWriter n m pages cs sync w =
+    keptIf (beforeChanges n m pages (length cs)) w
+    (writerAfter (came n m pages cs sync .came) (came n m pages cs sync .state) (left n m pages cs sync))
+
+-- the state that a sync begins with, or a refusal
+abbrev pub startIf : Answer (Unit {0}) → SyncState → Answer SyncState
+startIf (given u) st = given st
+startIf (refused k) st = refused k
+
+abbrev pub begunSaid : Begun → Answer SyncState
+begunSaid (begun.Ready st) = given st
+begunSaid (begun.Refused r) = refused (numberOf r)

@@ -1,0 +1,567 @@
+// A sync: changes to pages, each logged, with their buckets taken and given back in the tags: the
+// original's `prepare_sync`. `step` is one change; `sync` begins the log, walks the list of changes and
+// finishes the log. Data pages are not written: the caller does that, and replay repeats it after a stop.
+ghost use mathlib.Core.Path.{_≡_};
+ghost use mathlib.Core.Bool.{true};
+ghost use mathlib.Core.List.{[]};
+ghost use Prim.Native.Nat.{_+_, _-_, _/_, _^_, _≤_, _<_, min};
+ghost use lib.ListN.{length, set, take, replicate};
+ghost use Rattle.answers.specs.Answers.{given, refused};
+ghost use Rattle.answers.specs.Refusals.{numberOf};
+ghost use Rattle.ht_file.specs.Places.{tagsFit, tagPages};
+ghost use Rattle.meta_map.specs.Tags.{full, countOf};
+ghost use Rattle.sync.specs.Change.{memOf, bucket, namedBy, nameSaid, tagFits, byNamed, doesOf, plannedSaid, afterDoes, outlookSaid, outlookFits, cellsAt, takenSaid, pageNumber, effectOf, memBy, stateBy, stateOf};
+ghost use Rattle.sync.specs.Sync.{changeAt, changeMem, allOf, memAll, walkSaid, walkedSaid, syncSays, syncWriter, syncMem, beforeChanges, startIf, startState, startMem, keptIf, begunSaid, syncedSaid, saidBy, writerAfter, logAfter};
+use answers::Number;
+use answers::Outcome;
+use answers::Refusal;
+use answers::Truth;
+use meta_map::TOMBSTONE;
+use page_diff::Diff;
+use probe::Allocated;
+use wal::Writer;
+
+// A cell that has no bucket yet.
+pub const UNSET: u64 = 0xffff_ffff_ffff_ffff;
+
+// Where a page's bucket is known from: it is known; the page is new; or a cell has it, or will have it.
+pub enum Where {
+    Known(u64),
+    Fresh,
+    Cell(usize),
+}
+
+// A change of a page: its id and hash, the slots that changed, and where its bucket is known from. A
+// diff with the mark of a cleared page clears it.
+pub struct Change {
+    pub id: [u8; 32],
+    pub hash: u64,
+    pub diff: Diff,
+    pub place: Where,
+}
+
+// What a sync carries from change to change: the count of buckets, where its log stands, and how many
+// buckets are full.
+pub struct SyncState {
+    pub n: usize,
+    pub writer: Writer,
+    pub occupied: u64,
+}
+
+// What a change has come to: its bucket and the number of its page in the table's file.
+pub enum Taken {
+    At { bucket: u64, page: u64 },
+    Refused(Refusal),
+}
+
+pub struct StepAnswer {
+    pub taken: Taken,
+    pub state: SyncState,
+}
+
+// What the list of changes has come to: all of them, or a refusal at one of them.
+pub enum Walk {
+    Through(usize),
+    RefusedAt(usize, Refusal),
+}
+
+pub struct Walked {
+    pub walk: Walk,
+    pub state: SyncState,
+}
+
+// What the whole sync has come to: the full buckets and the length of the finished log.
+pub enum Synced {
+    Done { occupied: u64, length: u64 },
+    Refused(Refusal),
+    RefusedAt(usize, Refusal),
+}
+
+pub struct SyncAnswer {
+    pub synced: Synced,
+    pub writer: Writer,
+}
+
+// The bucket that a change names.
+enum Name {
+    Bucket(u64),
+    None,
+    Refused(Refusal),
+}
+
+// What a change is to do.
+enum Planned {
+    Clears(u64),
+    Updates(u64),
+    Allocates,
+    Refused(Refusal),
+}
+
+// The bucket that is known, or that the cell has.
+fn name_of(place: Where, cells: &[u64]) -> Name
+    ensures { λ r. ⌜ nameSaid r ≡ namedBy place (now (cells .entry)) ⌝ }
+{
+    match place {
+        Where::Known(b) => Name::Bucket(b),
+        Where::Fresh => Name::None,
+        Where::Cell(i) => {
+            if i < cells.len() {
+                let b = cells[i];
+                if b == UNSET {
+                    return Name::None;
+                }
+                return Name::Bucket(b);
+            }
+            Name::Refused(Refusal::LengthUnfit)
+        }
+    }
+}
+
+// The tag rule: a clear needs a full tag, an update the hash's.
+fn tag_fits(clearing: bool, hash: u64, tag: u8) -> bool
+    ensures { λ r. ⌜ r ≡ tagFits clearing hash tag ⌝ }
+{
+    if clearing {
+        return meta_map::is_full(tag);
+    }
+    tag == meta_map::full_entry(hash)
+}
+
+// What a named bucket is to take: 9 and 14 are decided here.
+fn plan_named(tags: &[u8], n: usize, clearing: bool, hash: u64, b: u64) -> Planned
+    requires { ⌜ tagsFit n (length (now tags)) ≡ true ⌝ }
+    ensures { λ r. ⌜ plannedSaid r ≡ byNamed clearing n (now (tags .entry)) hash (given (bucket b)) ⌝ }
+{
+    if b < n as u64 {
+        let i = b as usize;
+        if tag_fits(clearing, hash, tags[i]) {
+            if clearing {
+                return Planned::Clears(b);
+            }
+            return Planned::Updates(b);
+        }
+        return Planned::Refused(Refusal::BucketUnfit);
+    }
+    Planned::Refused(Refusal::BucketOutside)
+}
+
+// What a change is to do, on the tags and the cells as they are: 4, 2, 9 and 14 are decided here.
+fn plan(tags: &[u8], n: usize, cells: &[u64], c: Change) -> Planned
+    requires { ⌜ tagsFit n (length (now tags)) ≡ true ⌝ }
+    ensures { λ r. ⌜ plannedSaid r ≡ doesOf n (now (tags .entry)) (now (cells .entry)) c ⌝ }
+{
+    let d = c.diff;
+    let spare = page_diff::changed(d, 126);
+    if let Truth::Holds = spare {
+        return Planned::Refused(Refusal::DiffReserved);
+    }
+    let clearing = page_diff::cleared(d);
+    let place = c.place;
+    let name = name_of(place, cells);
+    if let Name::Refused(why) = name {
+        return Planned::Refused(why);
+    }
+    if let Name::Bucket(b) = name {
+        return plan_named(tags, n, clearing, c.hash, b);
+    }
+    if clearing {
+        return Planned::Refused(Refusal::BucketUnfit);
+    }
+    Planned::Allocates
+}
+
+// What a change will have done, if it is accepted: nothing is written yet.
+enum Outlook {
+    Clears(u64),
+    Updates(u64),
+    Takes(u64),
+    Refused(Refusal),
+}
+
+// The plan, with the room for its record, and a bucket where one is to be allocated: 13, then 10 or 11.
+fn look_ahead(tags: &[u8], cells: &[u64], log: &[u8], c: Change, st: SyncState) -> Outlook
+    requires { ⌜ tagsFit (st .n) (length (now tags)) ≡ true ⌝ }
+    ensures { λ r. ⌜ (outlookSaid r ≡ afterDoes st (memOf (now (tags .entry)) [] (now (cells .entry)) (now (log .entry))) c (doesOf (st .n) (now (tags .entry)) (now (cells .entry)) c)) × outlookFits r st (now (log .entry)) c ⌝ }
+{
+    let n = st.n;
+    let w = st.writer;
+    let d = c.diff;
+    let planned = plan(tags, n, cells, c);
+    match planned {
+        Planned::Refused(why) => Outlook::Refused(why),
+        Planned::Clears(b) => {
+            if wal_write::has_room(log.len(), w, wal::CLEAR_SIZE) {
+                return Outlook::Clears(b);
+            }
+            Outlook::Refused(Refusal::NoRoom)
+        }
+        Planned::Updates(b) => {
+            if wal_write::has_room(log.len(), w, wal::UPDATE_SIZE + 32 * page_diff::count(d)) {
+                return Outlook::Updates(b);
+            }
+            Outlook::Refused(Refusal::NoRoom)
+        }
+        Planned::Allocates => {
+            if wal_write::has_room(log.len(), w, wal::UPDATE_SIZE + 32 * page_diff::count(d)) {
+                let found = probe::find_bucket(tags, n, c.hash);
+                match found {
+                    Allocated::At(b) => Outlook::Takes(b),
+                    Allocated::Refused(why) => Outlook::Refused(why),
+                }
+            } else {
+                Outlook::Refused(Refusal::NoRoom)
+            }
+        }
+    }
+}
+
+// A refused change: the state as it was.
+fn refused_step(why: Refusal, st: SyncState) -> StepAnswer
+    ensures { λ r. ⌜ (takenSaid (r .taken) ≡ refused (numberOf why)) × (r .state ≡ st) ⌝ }
+{
+    StepAnswer {
+        taken: Taken::Refused(why),
+        state: st,
+    }
+}
+
+// An accepted change: its bucket and page number, and the state after it.
+fn taken_step(b: u64, n: usize, writer: Writer, occupied: u64) -> StepAnswer
+    requires { ⌜ (n ≤ 1048576) × (b < n) ⌝ }
+    ensures { λ r. ⌜ (takenSaid (r .taken) ≡ given (b, tagPages n + b)) × (r .state ≡ stateOf n writer occupied) ⌝ }
+{
+    StepAnswer {
+        taken: Taken::At {
+            bucket: b,
+            page: ((n + 4095) / 4096) as u64 + b,
+        },
+        state: SyncState {
+            n,
+            writer,
+            occupied,
+        },
+    }
+}
+
+// One less: a number that was lent falsely stays within its type.
+fn one_less(o: u64) -> u64
+    ensures { λ r. ⌜ r ≡ o - 1 ⌝ }
+{
+    if o == 0 {
+        return 0;
+    }
+    o - 1
+}
+
+// One more, in the same way.
+fn one_more(o: u64) -> u64
+    ensures { λ r. ⌜ r ≡ min (o + 1) (2 ^ 64 - 1) ⌝ }
+{
+    if o == 0xffff_ffff_ffff_ffff {
+        return o;
+    }
+    o + 1
+}
+
+// A tag and the mark of its page.
+fn write_tag(tags: &mut [u8], marks: &mut [u8], b: usize, tag: u8)
+    requires { ⌜ (b < length (now tags)) × (b / 4096 < length (now marks)) ⌝ }
+    ensures { λ _. ⌜ (now (tags .exit) ≡ set (now (tags .entry)) b tag) × (now (marks .exit) ≡ set (now (marks .entry)) (b / 4096) 1) ⌝ }
+{
+    let m = b / 4096;
+    tags[b] = tag;
+    marks[m] = 1;
+}
+
+// The cell that was to have the bucket has it.
+fn set_cell(cells: &mut [u64], place: Where, b: u64)
+    ensures { λ _. ⌜ now (cells .exit) ≡ cellsAt place b (now (cells .entry)) ⌝ }
+{
+    if let Where::Cell(i) = place {
+        if i < cells.len() {
+            cells[i] = b;
+        }
+    }
+}
+
+// One change: its tag, its mark, its cell and its record in the log. A refused change leaves all of them.
+pub fn step(
+    tags: &mut [u8],
+    marks: &mut [u8],
+    cells: &mut [u64],
+    log: &mut [u8],
+    page: &[u8],
+    c: Change,
+    st: SyncState,
+) -> StepAnswer
+    ensures { λ r. ⌜ (takenSaid (r .taken) ≡ pageNumber st (effectOf st (memOf (now (tags .entry)) (now (marks .entry)) (now (cells .entry)) (now (log .entry))) (now (page .entry)) c)) × ((r .state ≡ stateBy (effectOf st (memOf (now (tags .entry)) (now (marks .entry)) (now (cells .entry)) (now (log .entry))) (now (page .entry)) c) st c) × (memOf (now (tags .exit)) (now (marks .exit)) (now (cells .exit)) (now (log .exit)) ≡ memBy (effectOf st (memOf (now (tags .entry)) (now (marks .entry)) (now (cells .entry)) (now (log .entry))) (now (page .entry)) c) st (memOf (now (tags .entry)) (now (marks .entry)) (now (cells .entry)) (now (log .entry))) (now (page .entry)) c)) ⌝ }
+{
+    let n = st.n;
+    let w = st.writer;
+    if ht_file::tags_fit(n, tags.len()) {
+        if page.len() != 4096 {
+            return refused_step(Refusal::LengthUnfit, st);
+        }
+        if marks.len() != (n + 4095) / 4096 {
+            return refused_step(Refusal::LengthUnfit, st);
+        }
+        let Writer::Open(_) = w else {
+            return refused_step(Refusal::WriterNotOpen, st);
+        };
+        let ahead = look_ahead(&tags[..], &cells[..], &log[..], c, st);
+        let id = c.id;
+        let d = c.diff;
+        let place = c.place;
+        match ahead {
+            Outlook::Refused(why) => refused_step(why, st),
+            Outlook::Clears(b) => {
+                let written = wal_write::write_clear(log, w, b);
+                write_tag(tags, marks, b as usize, TOMBSTONE);
+                let after = written.writer;
+                taken_step(b, n, after, one_less(st.occupied))
+            }
+            Outlook::Updates(b) => {
+                let written = wal_write::write_page_update(log, w, id, d, page, b);
+                let after = written.writer;
+                taken_step(b, n, after, st.occupied)
+            }
+            Outlook::Takes(b) => {
+                let written = wal_write::write_page_update(log, w, id, d, page, b);
+                write_tag(tags, marks, b as usize, meta_map::full_entry(c.hash));
+                set_cell(cells, place, b);
+                let after = written.writer;
+                taken_step(b, n, after, one_more(st.occupied))
+            }
+        }
+    } else {
+        refused_step(Refusal::TableUnfit, st)
+    }
+}
+
+// Change j of a sync, whose page is the j-th of the lent pages.
+pub(crate) fn change_at(
+    tags: &mut [u8],
+    marks: &mut [u8],
+    cells: &mut [u64],
+    log: &mut [u8],
+    pages: &[u8],
+    c: Change,
+    j: usize,
+    st: SyncState,
+) -> Walked
+    ensures { λ r. ⌜ (walkedSaid r ≡ changeAt (memOf (now (tags .entry)) (now (marks .entry)) (now (cells .entry)) (now (log .entry))) (now (pages .entry)) c j st) × (memOf (now (tags .exit)) (now (marks .exit)) (now (cells .exit)) (now (log .exit)) ≡ changeMem (memOf (now (tags .entry)) (now (marks .entry)) (now (cells .entry)) (now (log .entry))) (now (pages .entry)) c j st) ⌝ }
+{
+    let mut a = 0;
+    let mut e = 0;
+    if j < pages.len() / 4096 {
+        a = 4096 * j;
+        e = a + 4096;
+    }
+    let s = step(tags, marks, cells, log, &pages[a..e], c, st);
+    let t = s.taken;
+    let state = s.state;
+    if let Taken::Refused(why) = t {
+        return Walked {
+            walk: Walk::RefusedAt(j, why),
+            state,
+        };
+    }
+    Walked {
+        walk: Walk::Through(j),
+        state,
+    }
+}
+
+// The changes one after another, up to the end or to the first that is refused.
+fn walk_changes(
+    tags: &mut [u8],
+    marks: &mut [u8],
+    cells: &mut [u64],
+    log: &mut [u8],
+    pages: &[u8],
+    changes: &[Change],
+    start: SyncState,
+) -> Walked
+    ensures { λ r. ⌜ (walkedSaid r ≡ allOf (memOf (now (tags .entry)) (now (marks .entry)) (now (cells .entry)) (now (log .entry))) (now (pages .entry)) (now (changes .entry)) 0 start) × (memOf (now (tags .exit)) (now (marks .exit)) (now (cells .exit)) (now (log .exit)) ≡ memAll (memOf (now (tags .entry)) (now (marks .entry)) (now (cells .entry)) (now (log .entry))) (now (pages .entry)) (now (changes .entry)) 0 start) ⌝ }
+{
+    let mut st = start;
+    let mut i = 0;
+    while i < changes.len() {
+        let s = change_at(tags, marks, cells, log, pages, changes[i], i, st);
+        let d = s.walk;
+        let Walk::Through(_) = d else {
+            return s;
+        };
+        st = s.state;
+        i += 1;
+    }
+    let d = Walk::Through(i);
+    Walked { walk: d, state: st }
+}
+
+// The full tags among the first n.
+fn full_tags(tags: &[u8], n: usize) -> u64
+    requires { ⌜ tagsFit n (length (now tags)) ≡ true ⌝ }
+    ensures { λ r. ⌜ r ≡ countOf full (now (tags .entry)) n ⌝ }
+{
+    if let Number::Is(k) = meta_map::full_count(tags, n) {
+        return k;
+    }
+    0
+}
+
+// Zeros all over.
+fn zero(marks: &mut [u8])
+    ensures { λ _. ⌜ now (marks .exit) ≡ replicate (length (now (marks .entry))) 0 ⌝ }
+{
+    let mut i = 0;
+    while i < marks.len() {
+        marks[i] = 0;
+        i += 1;
+    }
+}
+
+// What the start of a sync has come to: the state for its first change.
+enum Begun {
+    Ready(SyncState),
+    Refused(Refusal),
+}
+
+// The start of a sync of so many changes: the lengths are tested, the log is begun, the marks are zeroed and
+// the full tags counted. A refusal leaves all.
+fn begin_sync(
+    tags: &[u8],
+    marks: &mut [u8],
+    log: &mut [u8],
+    pages: &[u8],
+    count: usize,
+    n: usize,
+    sync_seqn: u32,
+) -> Begun
+    ensures { λ r. ⌜ (begunSaid r ≡ startIf (beforeChanges n (memOf (now (tags .entry)) (now (marks .entry)) [] (now (log .entry))) (now (pages .entry)) count) (startState n (memOf (now (tags .entry)) (now (marks .entry)) [] (now (log .entry))))) × (memOf (now (tags .entry)) (now (marks .exit)) [] (now (log .exit)) ≡ keptIf (beforeChanges n (memOf (now (tags .entry)) (now (marks .entry)) [] (now (log .entry))) (now (pages .entry)) count) (memOf (now (tags .entry)) (now (marks .entry)) [] (now (log .entry))) (startMem (memOf (now (tags .entry)) (now (marks .entry)) [] (now (log .entry))) «sync_seqn»)) ⌝ }
+{
+    if ht_file::tags_fit(n, tags.len()) {
+        if pages.len() / 4096 != count {
+            return Begun::Refused(Refusal::LengthUnfit);
+        }
+        if pages.len() % 4096 != 0 {
+            return Begun::Refused(Refusal::LengthUnfit);
+        }
+        if marks.len() != (n + 4095) / 4096 {
+            return Begun::Refused(Refusal::LengthUnfit);
+        }
+        let begun = wal_write::begin(log, Writer::Fresh, sync_seqn);
+        let outcome = begun.outcome;
+        if let Outcome::Refused(why) = outcome {
+            return Begun::Refused(why);
+        }
+        zero(marks);
+        let writer = begun.writer;
+        let start = SyncState {
+            n,
+            writer,
+            occupied: full_tags(tags, n),
+        };
+        return Begun::Ready(start);
+    }
+    Begun::Refused(Refusal::TableUnfit)
+}
+
+// What comes after the last change: the log is finished, or given up where a change was refused.
+fn end_sync(log: &mut [u8], walked: Walked) -> SyncAnswer
+    ensures { λ r. ⌜ (syncedSaid (r .synced) ≡ saidBy (walkSaid (walked .walk)) (walked .state) (memOf [] [] [] (now (log .entry)))) × ((r .writer ≡ writerAfter (walkSaid (walked .walk)) (walked .state) (memOf [] [] [] (now (log .entry)))) × (now (log .exit) ≡ logAfter (walkSaid (walked .walk)) (walked .state) (memOf [] [] [] (now (log .entry))))) ⌝ }
+{
+    let walk = walked.walk;
+    let state = walked.state;
+    if let Walk::RefusedAt(j, why) = walk {
+        return SyncAnswer {
+            synced: Synced::RefusedAt(j, why),
+            writer: Writer::Fresh,
+        };
+    }
+    let open = state.writer;
+    let finished = wal_write::finish(log, open);
+    let writer = finished.writer;
+    let answer = finished.answer;
+    match answer {
+        Number::Is(length) => SyncAnswer {
+            synced: Synced::Done {
+                occupied: state.occupied,
+                length,
+            },
+            writer,
+        },
+        Number::Refused(why) => SyncAnswer {
+            synced: Synced::Refused(why),
+            writer,
+        },
+    }
+}
+
+// A sync: the changes one after another, logged, between the start of the log and its end. `w` is the
+// writer that a refused sync hands back.
+pub fn sync(
+    tags: &mut [u8],
+    marks: &mut [u8],
+    cells: &mut [u64],
+    log: &mut [u8],
+    pages: &[u8],
+    changes: &[Change],
+    n: usize,
+    w: Writer,
+    sync_seqn: u32,
+) -> SyncAnswer
+    ensures { λ r. ⌜ (syncedSaid (r .synced) ≡ syncSays n (memOf (now (tags .entry)) (now (marks .entry)) (now (cells .entry)) (now (log .entry))) (now (pages .entry)) (now (changes .entry)) «sync_seqn») × ((r .writer ≡ syncWriter n (memOf (now (tags .entry)) (now (marks .entry)) (now (cells .entry)) (now (log .entry))) (now (pages .entry)) (now (changes .entry)) «sync_seqn» w) × (memOf (now (tags .exit)) (now (marks .exit)) (now (cells .exit)) (now (log .exit)) ≡ syncMem n (memOf (now (tags .entry)) (now (marks .entry)) (now (cells .entry)) (now (log .entry))) (now (pages .entry)) (now (changes .entry)) «sync_seqn»)) ⌝ }
+{
+    let begun = begin_sync(tags, marks, log, pages, changes.len(), n, sync_seqn);
+    match begun {
+        Begun::Refused(why) => SyncAnswer {
+            synced: Synced::Refused(why),
+            writer: w,
+        },
+        Begun::Ready(start) => {
+            let walked = walk_changes(tags, marks, cells, log, pages, changes, start);
+            end_sync(log, walked)
+        }
+    }
+}
+
+// A sync of the first k of four changes, which a program can hold in an array.
+fn sync_front(
+    tags: &mut [u8],
+    marks: &mut [u8],
+    cells: &mut [u64],
+    log: &mut [u8],
+    pages: &[u8],
+    cs: [Change; 4],
+    k: usize,
+    n: usize,
+    w: Writer,
+    sync_seqn: u32,
+) -> SyncAnswer
+    requires { ⌜ k ≤ 4 ⌝ }
+    ensures { λ r. ⌜ (syncedSaid (r .synced) ≡ syncSays n (memOf (now (tags .entry)) (now (marks .entry)) (now (cells .entry)) (now (log .entry))) (now (pages .entry)) (take k cs) «sync_seqn») × ((r .writer ≡ syncWriter n (memOf (now (tags .entry)) (now (marks .entry)) (now (cells .entry)) (now (log .entry))) (now (pages .entry)) (take k cs) «sync_seqn» w) × (memOf (now (tags .exit)) (now (marks .exit)) (now (cells .exit)) (now (log .exit)) ≡ syncMem n (memOf (now (tags .entry)) (now (marks .entry)) (now (cells .entry)) (now (log .entry))) (now (pages .entry)) (take k cs) «sync_seqn»)) ⌝ }
+{
+    sync(tags, marks, cells, log, pages, &cs[..k], n, w, sync_seqn)
+}
+
+// A sync of the first `count` of four changes; above four, of all four.
+pub fn sync_four(
+    tags: &mut [u8],
+    marks: &mut [u8],
+    cells: &mut [u64],
+    log: &mut [u8],
+    pages: &[u8],
+    cs: [Change; 4],
+    count: usize,
+    n: usize,
+    w: Writer,
+    sync_seqn: u32,
+) -> SyncAnswer
+    ensures { λ r. ⌜ (syncedSaid (r .synced) ≡ syncSays n (memOf (now (tags .entry)) (now (marks .entry)) (now (cells .entry)) (now (log .entry))) (now (pages .entry)) (take (min count 4) cs) «sync_seqn») × ((r .writer ≡ syncWriter n (memOf (now (tags .entry)) (now (marks .entry)) (now (cells .entry)) (now (log .entry))) (now (pages .entry)) (take (min count 4) cs) «sync_seqn» w) × (memOf (now (tags .exit)) (now (marks .exit)) (now (cells .exit)) (now (log .exit)) ≡ syncMem n (memOf (now (tags .entry)) (now (marks .entry)) (now (cells .entry)) (now (log .entry))) (now (pages .entry)) (take (min count 4) cs) «sync_seqn»)) ⌝ }
+{
+    if 4 < count {
+        return sync_front(tags, marks, cells, log, pages, cs, 4, n, w, sync_seqn);
+    }
+    sync_front(tags, marks, cells, log, pages, cs, count, n, w, sync_seqn)
+}
