@@ -7,3 +7,4 @@ pub mod Checks
 pub mod Steps
 pub mod Runs
 pub mod Replays
+pub mod Examples

@@ -1,5 +1,8 @@
+pub mod Accepted
 pub mod Again
 pub mod Front
+pub mod Logged
+pub mod Occupied
 pub mod Plans
 pub mod Shared
 pub mod StartLaws

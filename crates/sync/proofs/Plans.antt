@@ -139,7 +139,7 @@ module _ (n : ℕ) (tags : List ℕ) (h : ℕ) where
 
 module _ (n : ℕ) (tags cells : List ℕ) (c : Change) where
   -- an accepted plan has no bit 126
-  past-spare : (d : Does) → doesOf n tags cells c ≡ given d → (marked (c .diff .words) 126 ≡ false) × (byNamed (marked (c .diff .words) 127) n tags (c .hash) (namedBy (c .place) cells) ≡ given d)
+  pub past-spare : (d : Does) → doesOf n tags cells c ≡ given d → (marked (c .diff .words) 126 ≡ false) × (byNamed (marked (c .diff .words) 127) n tags (c .hash) (namedBy (c .place) cells) ≡ given d)
   unfolding doesOf
   past-spare d e = go (marked (c .diff .words) 126) refl e
     where

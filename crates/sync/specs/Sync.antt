@@ -8,11 +8,11 @@ use Rattle.answers.specs.Answers.{Answer, given, refused}
 use Rattle.answers.specs.Refusals.{numberOf}
 use Rattle.ht_file.specs.Places.{tagPages, tagsFit}
 use Rattle.meta_map.specs.Tags.{full, countOf}
-use Rattle.wal.specs.Log.{startSize}
+use Rattle.wal.specs.Log.{Entry, startSize}
 use Rattle.wal.specs.Writer.{beginAnswer, beginLog, finishAnswer, finishLog, finishWriter}
 use Rattle.wal.specs.declared.Writer.{Writer}
 use Rattle.wal.specs.declared.Writer.the-variants.{Fresh, Open, Finished}
-use Rattle.sync.specs.Change.{Mem, memOf, Effect, effectOf, memBy, stateBy}
+use Rattle.sync.specs.Change.{Mem, memOf, Effect, effectOf, entryBy, memBy, stateBy}
 use Rattle.sync.specs.declared.Change.{Change}
 use Rattle.sync.specs.declared.SyncState.{SyncState}
 use Rattle.sync.specs.declared.Walked.{Walked}
@@ -69,6 +69,16 @@ memAll m pages [] j st = m
 memAll m pages (c ∷ cs) j st =
     orMem (changeAt m pages c j st .came) (changeMem m pages c j st)
     (memAll (changeMem m pages c j st) pages cs (j + 1) (changeAt m pages c j st .state))
+
+-- the entries that the changes give, in order, as far as they come
+abbrev pub entriesBy : Answer Effect → Change → List ℕ → List Entry → List Entry
+entriesBy (given e) c page rest = entryBy c page e ∷ rest
+entriesBy (refused k) c page rest = []
+
+unfoldable pub entriesOf : Mem → List ℕ → List Change → ℕ → SyncState → List Entry
+entriesOf m pages [] j st = []
+entriesOf m pages (c ∷ cs) j st =
+    entriesBy (effectOf st m (pageOf pages j) c) c (pageOf pages j) (entriesOf (changeMem m pages c j st) pages cs (j + 1) (changeAt m pages c j st .state))
 
 abbrev pub walkSaid : Walk → Came
 walkSaid (walk.Through j) = through j

@@ -1,0 +1,173 @@
+-- The log of a sync is a finished log of exactly the entries that its changes give, in order: it reads back. Assumes nothing.
+use mathlib.Core.Path.{_≡_, refl, sym, ap, ap₂, _∙_, subst}
+use mathlib.Core.Bool.{Bool, true, false, cond, _&&_}
+use mathlib.Core.List.{List, [], _∷_, _++_, append-nil, append-assoc}
+use Prim.Native.Nat.{ℕ, _+_, _*_, _<_, _^_}
+use native.Mathlib.Omega.{arith}
+use lib.Dec.{eqb}
+use lib.ListN.{length, getD, take}
+use denote.Enum.Declared.{tagOf}
+use Rattle.answers.specs.Answers.{Answer, given, refused, accepted}
+use Rattle.answers.proofs.Laws.{given-one, given-refused}
+use Rattle.ht_file.specs.Places.{tagsFit, tagPages}
+use Rattle.ht_file.proofs.Laws.{tags-fit-facts}
+use Rattle.page_diff.specs.Diff.{reserved, countOf}
+use Rattle.probe.specs.Path.{allocating, hitLimit, allocateAnswer}
+use Rattle.probe.proofs.Allocating.{answer-below}
+use Rattle.wal.specs.Log.{Entry, startSize, recordsOf, clearSize, updateSize, finishedLength}
+use Rattle.wal.specs.Reader.{Reading, startOf, readLog}
+use Rattle.wal.specs.Run.{Run, begun, with-clear}
+use Rattle.wal.specs.Writer.{beginAnswer, beginLog, beginWriter, finishAnswer, finishLog}
+use Rattle.wal.specs.declared.Writer.{Writer}
+use Rattle.wal.specs.declared.Writer.the-variants.{Fresh, Open}
+use Rattle.wal.proofs.Writer as WriterT
+use Rattle.wal.proofs.RoundTrip.{run-made, finish-fits, round-trip-start, round-trip}
+use Rattle.wal_write.specs.Calls.{roomIn, clearWriter, pageUpdate, pageUpdateWriter}
+use Rattle.wal_write.proofs.PageUpdates.{run-page}
+use Rattle.sync.specs.Change.{Mem, memOf, doesOf, Effect, cleared, updated, allocated, bucketOf, effectOf, entryBy, memBy, stateBy}
+use Rattle.sync.specs.Sync.{pageOf, Came, through, refusedAt, orRest, orMem, changeAt, changeMem, allOf, memAll, entriesBy, entriesOf, beforeChanges, startMem, startState, saidDone, saidFinish, saidBy, saidIf, keptIf, logAfter, came, left, syncSays, syncMem}
+use Rattle.sync.specs.declared.Change.{Change}
+use Rattle.sync.specs.declared.SyncState.{SyncState}
+use Rattle.sync.proofs.Accepted.{after-cleared, after-updated, after-allocated, accepted-change}
+use Rattle.sync.proofs.Plans.{does-clears, does-updates, does-allocates}
+use Rattle.sync.proofs.StartLaws.{begun-open}
+use Rattle.sync.proofs.StepLaws.{Opened, clear-taken, page-taken, clear-state, clear-bytes, page-state, page-bytes}
+
+-- the widths of a change's parts, which their types give
+pub record Sized (c : Change) : Type 0 where
+  pub id-long : length (c .id) ≡ 32
+  pub two-words : length (c .diff .words) ≡ 2
+  pub low-word : getD (c .diff .words) 0 0 < 2 ^ 64
+  pub high-word : getD (c .diff .words) 1 0 < 2 ^ 64
+
+pub data AllSized : List Change → Type 0 where
+  none : AllSized []
+  more : {c : Change} {cs : List Change} → Sized c → AllSized cs → AllSized (c ∷ cs)
+
+-- one accepted change is one more call of the run
+module _ (log₀ : List ℕ) (sync : ℕ) (st : SyncState) (m : Mem) (page : List ℕ) (c : Change) (es : List Entry) (run : Run log₀ sync (st .writer) (m .log) es) (sized : Sized c) where
+  abbrev w : Writer
+  w = st .writer
+
+  abbrev l : List ℕ
+  l = m .log
+
+  abbrev ws : List ℕ
+  ws = c .diff .words
+
+  abbrev Went : Effect → Type 0
+  Went e = Run log₀ sync (stateBy (given e) st c .writer) (memBy (given e) st m page c .log) (es ++ (entryBy c page e ∷ []))
+
+  opened : Opened w
+  opened = ap (tagOf WriterT.the-type) (run-made log₀ sync run .is-open)
+
+  small : (b : ℕ) → b < st .n → tagsFit (st .n) (length (m .tags)) ≡ true → b < 2 ^ 64
+  small b h f = omega (arith, tags-fit-facts (st .n) (length (m .tags)) f)
+
+  page-went : (b : ℕ) → b < 2 ^ 64 → length page ≡ 4096 → reserved ws ≡ false → roomIn (length l) w (updateSize (countOf ws)) ≡ true → Went (updated b)
+  page-went b h long plain room =
+      let k = page-taken w l ws page opened long plain room in
+      let r = run-page (c .id) ws page b (sized .id-long) (sized .two-words) (sized .low-word) (sized .high-word) h log₀ sync w l es run (ap accepted k) in
+      subst (λ (x : Writer). Run log₀ sync x (memBy (given (updated b)) st m page c .log) (es ++ (pageUpdate (c .id) ws page b ∷ []))) (page-state w l ws page k)
+      (subst (λ (x : List ℕ). Run log₀ sync (pageUpdateWriter l w ws page) x (es ++ (pageUpdate (c .id) ws page b ∷ []))) (page-bytes w l ws page k (c .id) b) r)
+
+  pub change-logged : (e : Effect) → effectOf st m page c ≡ given e → Went e
+  change-logged (cleared b) h =
+      let a = accepted-change st m page c (cleared b) h in
+      let d = after-cleared st m c (doesOf (st .n) (m .tags) (m .cells) c) b (a .2) in
+      let k = clear-taken w l opened (d .1) in
+      let r = with-clear w l es b run (small b (does-clears (st .n) (m .tags) (m .cells) c b (d .0)) (a .0)) (ap accepted k) in
+      subst (λ (x : Writer). Run log₀ sync x (memBy (given (cleared b)) st m page c .log) (es ++ (entryBy c page (cleared b) ∷ []))) (clear-state w l k)
+      (subst (λ (x : List ℕ). Run log₀ sync (clearWriter l w) x (es ++ (entryBy c page (cleared b) ∷ []))) (clear-bytes w l k b) r)
+  change-logged (updated b) h =
+      let a = accepted-change st m page c (updated b) h in
+      let d = after-updated st m c (doesOf (st .n) (m .tags) (m .cells) c) b (a .2) in
+      let q = does-updates (st .n) (m .tags) (m .cells) c b (d .0) in
+      page-went b (small b (q .0) (a .0)) (a .1) (q .1) (d .1)
+  change-logged (allocated b) h =
+      let a = accepted-change st m page c (allocated b) h in
+      let d = after-allocated st m c (doesOf (st .n) (m .tags) (m .cells) c) b (a .2) in
+      let f : allocateAnswer hitLimit (m .tags) (st .n) (c .hash) ≡ given b = ap (λ (t : Bool). cond t (allocating hitLimit (m .tags) (st .n) (c .hash)) (refused 1)) (a .0) ∙ d .2 in
+      page-went b (small b (answer-below hitLimit (m .tags) (st .n) (c .hash) b f .0) (a .0)) (a .1) (does-allocates (st .n) (m .tags) (m .cells) c (d .0)) (d .1)
+
+-- the changes, as far as they came, are a run of that many calls more
+abbrev Runs : List ℕ → ℕ → List ℕ → List Change → Type 0
+Runs log₀ sync pages cs =
+    (m : Mem) (j : ℕ) (st : SyncState) (es : List Entry) → Run log₀ sync (st .writer) (m .log) es
+    → Run log₀ sync (allOf m pages cs j st .state .writer) (memAll m pages cs j st .log) (es ++ entriesOf m pages cs j st)
+
+pub all-logged : (log₀ : List ℕ) (sync : ℕ) (pages : List ℕ) (cs : List Change) → AllSized cs → Runs log₀ sync pages cs
+unfolding allOf memAll changeAt changeMem entriesOf
+all-logged log₀ sync pages [] none m j st es run = subst (Run log₀ sync (st .writer) (m .log)) (sym (append-nil es)) run
+all-logged log₀ sync pages (c ∷ cs) (more z zs) m j st es run = go (effectOf st m (pageOf pages j) c) refl (all-logged log₀ sync pages cs zs)
+  where
+    go : (e : Answer Effect) → effectOf st m (pageOf pages j) c ≡ e → Runs log₀ sync pages cs
+        → Run log₀ sync (orRest (changeAt m pages c j st .came) (changeAt m pages c j st) (allOf (changeMem m pages c j st) pages cs (j + 1) (changeAt m pages c j st .state)) .state .writer)
+        (orMem (changeAt m pages c j st .came) (changeMem m pages c j st) (memAll (changeMem m pages c j st) pages cs (j + 1) (changeAt m pages c j st .state)) .log)
+        (es ++ entriesBy (effectOf st m (pageOf pages j) c) c (pageOf pages j) (entriesOf (changeMem m pages c j st) pages cs (j + 1) (changeAt m pages c j st .state)))
+    go (given e) h rest =
+        let page : List ℕ = pageOf pages j in
+        let m′ : Mem = memBy (given e) st m page c in
+        let st′ : SyncState = stateBy (given e) st c in
+        let x : Entry = entryBy c page e in
+        rw (h)
+        (subst (Run log₀ sync (allOf m′ pages cs (j + 1) st′ .state .writer) (memAll m′ pages cs (j + 1) st′ .log)) (append-assoc es (x ∷ []) (entriesOf m′ pages cs (j + 1) st′))
+        (rest m′ (j + 1) st′ (es ++ (x ∷ [])) (change-logged log₀ sync st m page c es run z e h)))
+    go (refused k) h rest = rw (h) (subst (Run log₀ sync (st .writer) (m .log)) (sym (append-nil es)) run)
+
+-- a sync that is done has begun its log, come through all changes and finished it
+finish-told : (a : Answer ℕ) (occupied o len : ℕ) → saidFinish a occupied ≡ saidDone o len → a ≡ given len
+finish-told (given x) occupied o len h = let z : x ≡ len = cc in ap given z
+finish-told (refused k) occupied o len h = let z : _≡_ {A = ℕ} 0 1 = cc in absurd (omega arith)
+
+done-parts : (b : Answer (Unit {0})) (c : Came) (st : SyncState) (m : Mem) (o len : ℕ) → saidIf b (saidBy c st m) ≡ saidDone o len → (b ≡ given tt) × (finishAnswer (m .log) (st .writer) ≡ given len) × (logAfter c st m ≡ finishLog (m .log) (st .writer))
+done-parts (refused k) c st m o len h = let z : _≡_ {A = ℕ} 0 1 = cc in absurd (omega arith)
+done-parts (given u) (refusedAt j k) st m o len h = let z : _≡_ {A = ℕ} 0 1 = cc in absurd (omega arith)
+done-parts (given u) (through j) st m o len h = (refl, finish-told (finishAnswer (m .log) (st .writer)) (st .occupied) o len h, refl)
+
+passed : (f g : Bool) (a : Answer (Unit {0})) → cond f (cond g a (refused 2)) (refused 1) ≡ given tt → a ≡ given tt
+passed true true a h = h
+passed true false a h = absurd (given-refused tt 2 (sym h))
+passed false g a h = absurd (given-refused tt 1 (sym h))
+
+begin-passed : (n : ℕ) (m : Mem) (pages : List ℕ) (count : ℕ) → beforeChanges n m pages count ≡ given tt → beginAnswer (m .log) ≡ given tt
+unfolding beforeChanges
+begin-passed n m pages count h =
+    passed (tagsFit n (length (m .tags))) (eqb (length pages) (4096 * count) && eqb (length (m .marks)) (tagPages n)) (beginAnswer (m .log)) h
+
+-- the whole: its log starts the slice, has the length that is answered, and reads back
+module _ (n : ℕ) (m : Mem) (pages : List ℕ) (cs : List Change) (sync o len : ℕ) (sized : AllSized cs) (h : syncSays n m pages cs sync ≡ saidDone o len) where
+  abbrev pub entries : List Entry
+  entries = entriesOf (startMem m sync) pages cs 0 (startState n m)
+
+  abbrev end : SyncState
+  end = came n m pages cs sync .state
+
+  abbrev last : Mem
+  last = left n m pages cs sync
+
+  parts : (beforeChanges n m pages (length cs) ≡ given tt) × (finishAnswer (last .log) (end .writer) ≡ given len) × (logAfter (came n m pages cs sync .came) end last ≡ finishLog (last .log) (end .writer))
+  unfolding syncSays
+  parts = done-parts (beforeChanges n m pages (length cs)) (came n m pages cs sync .came) end last o len h
+
+  pub sync-run : Run (m .log) sync (end .writer) (last .log) entries
+  sync-run =
+      let ok = begin-passed n m pages (length cs) (parts .0) in
+      all-logged (m .log) sync pages cs sized (startMem m sync) 0 (startState n m) []
+      (subst (λ (x : Writer). Run (m .log) sync x (beginLog (m .log) sync) []) (begun-open (m .log) sync ok) (begun Fresh (ap accepted ok)))
+
+  pub sync-length : len ≡ finishedLength (startSize + length (recordsOf entries))
+  sync-length = given-one len (finishedLength (startSize + length (recordsOf entries))) (sym (parts .1) ∙ finish-fits (m .log) sync (end .writer) (last .log) entries sync-run)
+
+  pub sync-log : syncMem n m pages cs sync .log ≡ finishLog (last .log) (end .writer)
+  unfolding syncMem
+  sync-log =
+      ap (λ (b : Answer (Unit {0})). keptIf b m (memOf (last .tags) (last .marks) (last .cells) (logAfter (came n m pages cs sync .came) end last)) .log) (parts .0) ∙ parts .2
+
+  pub sync-reads-start : sync < 2 ^ 32 → startOf (take len (syncMem n m pages cs sync .log)) ≡ given sync
+  sync-reads-start s =
+      ap₂ (λ (k : ℕ) (x : List ℕ). startOf (take k x)) sync-length sync-log ∙ round-trip-start (m .log) sync (end .writer) (last .log) entries sync-run s
+
+  pub sync-reads-back : readLog (take len (syncMem n m pages cs sync .log)) ≡ record { entries = entries; at = startSize + length (recordsOf entries); stop = given tt }
+  sync-reads-back =
+      ap₂ (λ (k : ℕ) (x : List ℕ). readLog (take k x)) sync-length sync-log ∙ round-trip (m .log) sync (end .writer) (last .log) entries sync-run

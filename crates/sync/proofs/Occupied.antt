@@ -1,0 +1,105 @@
+-- "Occupied starts as the number of full tags", and is that number after every change. Assumes nothing.
+use mathlib.Core.Path.{_≡_, refl, sym, ap, _∙_}
+use mathlib.Core.Bool.{Bool, true, false, cond, _&&_, _||_}
+use mathlib.Core.List.{List, [], _∷_}
+use Prim.Native.Nat.{ℕ, _+_, _-_, _^_, _≤_, _<_, min}
+use native.Mathlib.Omega.{arith}
+use lib.Dec.{ltb, leb, eqb}
+use lib.ListN.{length, getD, set}
+use Rattle.answers.specs.Answers.{Answer, given, refused}
+use Rattle.answers.proofs.Laws.{given-refused}
+use Rattle.ht_file.specs.Places.{tagsFit, tagPages}
+use Rattle.ht_file.proofs.Laws.{tags-fit-facts}
+use Rattle.meta_map.specs.Tags.{Kind, empty, tombstone, full, other, isKind, kindOf, fullTag, countOf, one}
+use Rattle.meta_map.proofs.Laws.{full-tag-kind, count-set, count-le}
+use Rattle.probe.specs.Path.{isFree, allocating, allocateAnswer, hitLimit}
+use Rattle.probe.proofs.Promises.{AllocatedAt, allocated-bucket}
+use Rattle.page_diff.specs.Diff.{marked}
+use Rattle.wal.specs.Writer.{finishAnswer}
+use Rattle.sync.specs.Change.{Mem, memOf, Named, bucket, none, namedBy, tagFits, Does, clears, updates, allocates, doesWith, byNamed, doesOf, Effect, cleared, updated, allocated, byBucket, afterDoes, effectOf, tagsIf, memBy, stateBy}
+use Rattle.sync.specs.Sync.{pageOf, Came, through, refusedAt, orRest, orMem, changeAt, changeMem, allOf, memAll, beforeChanges, startMem, startState, saidDone, saidFinish, saidBy, saidIf, keptIf, logAfter, came, left, syncSays, syncMem}
+use Rattle.sync.specs.declared.Change.{Change}
+use Rattle.sync.specs.declared.SyncState.{SyncState}
+use Rattle.sync.proofs.Accepted.{after-cleared, after-allocated, accepted-change}
+use Rattle.sync.proofs.Plans.{past-spare, does-clears}
+
+-- a named bucket that is to be cleared has a full tag
+named-bucket : (cl t u : Bool) (x b : ℕ) → cond t (cond u (given (doesWith cl x)) (refused 14)) (refused 9) ≡ given (clears b) → (cl ≡ true) × (u ≡ true) × (x ≡ b)
+named-bucket true true true x b r = (refl, refl, cc)
+named-bucket false true true x b r = let z : _≡_ {A = ℕ} 0 1 = cc in absurd (omega arith)
+named-bucket true true false x b r = let z : _≡_ {A = ℕ} 0 1 = cc in absurd (omega arith)
+named-bucket false true false x b r = let z : _≡_ {A = ℕ} 0 1 = cc in absurd (omega arith)
+named-bucket true false u x b r = let z : _≡_ {A = ℕ} 0 1 = cc in absurd (omega arith)
+named-bucket false false u x b r = let z : _≡_ {A = ℕ} 0 1 = cc in absurd (omega arith)
+
+named-full : (cl : Bool) (n : ℕ) (tags : List ℕ) (h : ℕ) (a : Answer Named) (b : ℕ) → byNamed cl n tags h a ≡ given (clears b) → isKind full (kindOf (getD tags b 0)) ≡ true
+named-full cl n tags h (refused k) b e = let z : _≡_ {A = ℕ} 0 1 = cc in absurd (omega arith)
+named-full true n tags h (given none) b e = let z : _≡_ {A = ℕ} 0 1 = cc in absurd (omega arith)
+named-full false n tags h (given none) b e = let z : _≡_ {A = ℕ} 0 1 = cc in absurd (omega arith)
+named-full cl n tags h (given (bucket x)) b e =
+    let q = named-bucket cl (ltb x n) (tagFits cl h (getD tags x 0)) x b e in
+    sym (ap (λ (y : ℕ). isKind full (kindOf (getD tags y 0))) (q .2)) ∙ sym (ap (λ (y : Bool). tagFits y h (getD tags x 0)) (q .0)) ∙ q .1
+
+-- a bucket that is free is not full
+free-not-full : (k : Kind) → isKind empty k || isKind tombstone k ≡ true → isKind full k ≡ false
+free-not-full empty h = refl
+free-not-full tombstone h = refl
+free-not-full full h = let z : _≡_ {A = ℕ} 0 1 = cc in absurd (omega arith)
+free-not-full other h = refl
+
+module _ (st : SyncState) (m : Mem) (page : List ℕ) (c : Change) where
+  -- after a change, accepted or refused
+  pub occupied-kept : (e : Answer Effect) → effectOf st m page c ≡ e → st .occupied ≡ countOf full (m .tags) (st .n) → stateBy e st c .occupied ≡ countOf full (tagsIf e (c .hash) (m .tags)) (st .n)
+  occupied-kept (refused k) h o = o
+  occupied-kept (given (updated b)) h o = o
+  occupied-kept (given (cleared b)) h o =
+      let a = accepted-change st m page c (cleared b) h in
+      let f = tags-fit-facts (st .n) (length (m .tags)) (a .0) in
+      let d = after-cleared st m c (doesOf (st .n) (m .tags) (m .cells) c) b (a .2) .0 in
+      let l = does-clears (st .n) (m .tags) (m .cells) c b d in
+      let k = named-full (marked (c .diff .words) 127) (st .n) (m .tags) (c .hash) (namedBy (c .place) (m .cells)) b (past-spare (st .n) (m .tags) (m .cells) c (clears b) d .1) in
+      omega (arith, count-set full (m .tags) b 0x7F (st .n) l (omega arith), ap one k)
+  occupied-kept (given (allocated b)) h o =
+      let a = accepted-change st m page c (allocated b) h in
+      let f = tags-fit-facts (st .n) (length (m .tags)) (a .0) in
+      let g = after-allocated st m c (doesOf (st .n) (m .tags) (m .cells) c) b (a .2) .2 in
+      let r = allocated-bucket hitLimit (m .tags) (st .n) (c .hash) b (ap (λ (t : Bool). cond t (allocating hitLimit (m .tags) (st .n) (c .hash)) (refused 1)) (a .0) ∙ g) in
+      let l : b < st .n = r .1 .below in
+      omega (arith, count-set full (m .tags) b (fullTag (c .hash)) (st .n) l (omega arith), ap one (free-not-full (kindOf (getD (m .tags) b 0)) (r .1 .was-free)), ap (λ (x : Kind). one (isKind full x)) (full-tag-kind (c .hash)), count-le full (m .tags) (st .n))
+
+-- after the changes, as far as they came
+abbrev Counts : List ℕ → List Change → Type 0
+Counts pages cs =
+    (m : Mem) (j : ℕ) (st : SyncState) → st .occupied ≡ countOf full (m .tags) (st .n) → allOf m pages cs j st .state .occupied ≡ countOf full (memAll m pages cs j st .tags) (st .n)
+
+pub all-occupied : (pages : List ℕ) (cs : List Change) → Counts pages cs
+unfolding allOf memAll changeAt changeMem
+all-occupied pages [] m j st o = o
+all-occupied pages (c ∷ cs) m j st o = go (effectOf st m (pageOf pages j) c) refl (all-occupied pages cs)
+  where
+    go : (e : Answer Effect) → effectOf st m (pageOf pages j) c ≡ e → Counts pages cs
+        → orRest (changeAt m pages c j st .came) (changeAt m pages c j st) (allOf (changeMem m pages c j st) pages cs (j + 1) (changeAt m pages c j st .state)) .state .occupied
+        ≡ countOf full (orMem (changeAt m pages c j st .came) (changeMem m pages c j st) (memAll (changeMem m pages c j st) pages cs (j + 1) (changeAt m pages c j st .state)) .tags) (st .n)
+    go (given e) h rest =
+        rw (h) (rest (memBy (given e) st m (pageOf pages j) c) (j + 1) (stateBy (given e) st c) (occupied-kept st m (pageOf pages j) c (given e) h o))
+    go (refused k) h rest = rw (h) (occupied-kept st m (pageOf pages j) c (refused k) h o)
+
+-- what a sync that is done says
+finish-done : (a : Answer ℕ) (occupied o len : ℕ) → saidFinish a occupied ≡ saidDone o len → occupied ≡ o
+finish-done (given l) occupied o len h = cc
+finish-done (refused k) occupied o len h = let z : _≡_ {A = ℕ} 0 1 = cc in absurd (omega arith)
+
+said-done : (b : Answer (Unit {0})) (c : Came) (st : SyncState) (l : Mem) (o len : ℕ) → saidIf b (saidBy c st l) ≡ saidDone o len → (b ≡ given tt) × (st .occupied ≡ o)
+said-done (refused k) c st l o len h = let z : _≡_ {A = ℕ} 0 1 = cc in absurd (omega arith)
+said-done (given u) (refusedAt j k) st l o len h = let z : _≡_ {A = ℕ} 0 1 = cc in absurd (omega arith)
+said-done (given u) (through j) st l o len h = (refl, finish-done (finishAnswer (l .log) (st .writer)) (st .occupied) o len h)
+
+-- the whole: "answers occupied", the number of full tags that it leaves
+pub sync-occupied : (n : ℕ) (m : Mem) (pages : List ℕ) (cs : List Change) (sync o len : ℕ) → syncSays n m pages cs sync ≡ saidDone o len → o ≡ countOf full (syncMem n m pages cs sync .tags) n
+unfolding syncSays syncMem
+sync-occupied n m pages cs sync o len h =
+    let a = came n m pages cs sync in
+    let l = left n m pages cs sync in
+    let d = said-done (beforeChanges n m pages (length cs)) (a .came) (a .state) l o len h in
+    sym (d .1) ∙ all-occupied pages cs (startMem m sync) 0 (startState n m) refl
+    ∙ sym (ap (λ (b : Answer (Unit {0})). countOf full (keptIf b m (memOf (l .tags) (l .marks) (l .cells) (logAfter (a .came) (a .state) l)) .tags) n) (d .0))
