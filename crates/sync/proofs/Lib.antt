@@ -4,8 +4,10 @@ pub mod Front
 pub mod Logged
 pub mod Occupied
 pub mod Plans
+pub mod Replayed
 pub mod Shared
 pub mod StartLaws
 pub mod StepLaws
 pub mod SyncLaws
+pub mod Untouched
 pub mod WalkLaws
