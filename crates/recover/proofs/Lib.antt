@@ -7,4 +7,5 @@ pub mod Checks
 pub mod Steps
 pub mod Runs
 pub mod Replays
+pub mod OneAnswer
 pub mod Examples

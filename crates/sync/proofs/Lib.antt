@@ -3,6 +3,7 @@ pub mod Again
 pub mod Front
 pub mod Logged
 pub mod Occupied
+pub mod OneAnswer
 pub mod Plans
 pub mod Replayed
 pub mod Shared
