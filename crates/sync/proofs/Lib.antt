@@ -1,6 +1,7 @@
 pub mod Accepted
 pub mod Again
 pub mod Front
+pub mod LiveTags
 pub mod Logged
 pub mod Occupied
 pub mod OneAnswer

@@ -60,9 +60,9 @@ module _ (i : ℕ) (pages : List ℕ) where
 
 -- which page's mark a change sets, and whether one of the changes sets it
 abbrev writes : Effect → ℕ → Bool
-writes (cleared b) p = eqb (b / 4096) p
+writes (cleared b) p = eqb p (b / 4096)
 writes (updated b) p = false
-writes (allocated b) p = eqb (b / 4096) p
+writes (allocated b) p = eqb p (b / 4096)
 
 abbrev wroteBy : Answer Effect → ℕ → Bool → Bool
 wroteBy (given e) p rest = writes e p || rest
@@ -72,17 +72,18 @@ unfoldable pub wrote : Mem → List ℕ → List Change → ℕ → SyncState �
 wrote m pages [] j st p = false
 wrote m pages (c ∷ cs) j st p = wroteBy (effectOf st m (pageOf pages j) c) p (wrote (changeMem m pages c j st) pages cs (j + 1) (changeAt m pages c j st .state) p)
 
-set-mark : (x p : ℕ) (marks : List ℕ) → p < length marks → getD (set marks x 1) p 0 ≡ cond (eqb x p) 1 (getD marks p 0)
-set-mark x p marks h = go (eqb x p) refl
+-- a byte after one was set
+pub set-at : (x p v : ℕ) (s : List ℕ) → p < length s → getD (set s x v) p 0 ≡ cond (eqb p x) v (getD s p 0)
+set-at x p v s h = go (eqb p x) refl
   where
-    go : (b : Bool) → eqb x p ≡ b → getD (set marks x 1) p 0 ≡ cond b 1 (getD marks p 0)
-    go true e = ap (λ (y : ℕ). getD (set marks y 1) p 0) (eqb-true x p e) ∙ getD-set-same marks p 1 0 h
-    go false e = getD-set-other marks x p 1 0 (λ q. let y : true ≡ false = sym (eq-eqb x p (sym q)) ∙ e in let z : _≡_ {A = ℕ} 0 1 = cc in absurd (omega arith))
+    go : (b : Bool) → eqb p x ≡ b → getD (set s x v) p 0 ≡ cond b v (getD s p 0)
+    go true e = ap (λ (y : ℕ). getD (set s y v) p 0) (sym (eqb-true p x e)) ∙ getD-set-same s p v 0 h
+    go false e = getD-set-other s x p v 0 (λ q. let y : true ≡ false = sym (eq-eqb p x q) ∙ e in let z : _≡_ {A = ℕ} 0 1 = cc in absurd (omega arith))
 
 mark-one : (e : Effect) (marks : List ℕ) (p : ℕ) → p < length marks → (getD (marksBy e marks) p 0 ≡ cond (writes e p) 1 (getD marks p 0)) × (length (marksBy e marks) ≡ length marks)
-mark-one (cleared b) marks p h = (set-mark (b / 4096) p marks h, length-set marks (b / 4096) 1)
+mark-one (cleared b) marks p h = (set-at (b / 4096) p 1 marks h, length-set marks (b / 4096) 1)
 mark-one (updated b) marks p h = (refl, refl)
-mark-one (allocated b) marks p h = (set-mark (b / 4096) p marks h, length-set marks (b / 4096) 1)
+mark-one (allocated b) marks p h = (set-at (b / 4096) p 1 marks h, length-set marks (b / 4096) 1)
 
 either : (a b : Bool) (x : ℕ) → cond b 1 (cond a 1 x) ≡ cond (a || b) 1 x
 either true true x = refl
