@@ -1,0 +1,3 @@
+pub mod Marker
+pub mod Pending
+pub mod Growth

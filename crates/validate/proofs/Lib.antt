@@ -1,0 +1,7 @@
+pub mod Promises
+pub mod OneAnswer
+pub mod Audits
+pub mod Passes
+pub mod Reaches
+pub mod Labels
+pub mod Filters
