@@ -1,0 +1,243 @@
+//! What the comparison asks of 01 and of ours, call by call, in 01's terms. The original is asked in
+//! its own; see ops/.
+
+use model::{
+    audit::Audited,
+    diff::{Diff, Packed},
+    growth::{Grown, Pending},
+    path::{Found, Probed},
+    reader::Entry,
+    replay::{Replayed, Stepped},
+    sync::{Change, Lent, State, Step, Synced},
+    tags::Kind,
+    writer::Writer,
+    Answer,
+};
+
+pub trait Engine {
+    fn diff_read(bytes: [u8; 16]) -> Answer<Diff>;
+    fn diff_bytes(d: Diff) -> [u8; 16];
+    fn diff_set(d: Diff, slot: u64) -> Answer<Diff>;
+    fn diff_ask(d: Diff, slot: u64) -> Answer<bool>;
+    fn diff_set_cleared(d: Diff) -> Diff;
+    fn diff_cleared(d: Diff) -> bool;
+    fn diff_count(d: Diff) -> u64;
+    fn diff_join(a: Diff, b: Diff) -> Diff;
+    fn pack(d: Diff, page: &[u8]) -> Answer<Packed>;
+    fn unpack(d: Diff, packed: &Packed, page: &mut [u8]) -> Answer<()>;
+
+    fn full_tag(hash: u64) -> u8;
+    fn kind(tag: u8) -> Kind;
+    fn set_full(tags: &mut [u8], n: u64, bucket: u64, hash: u64) -> Answer<()>;
+    fn set_tombstone(tags: &mut [u8], n: u64, bucket: u64) -> Answer<()>;
+    fn full_count(tags: &[u8], n: u64) -> Answer<u64>;
+    fn padding_is_zero(tags: &[u8], n: u64) -> Answer<bool>;
+    fn tag_page(bucket: u64) -> u64;
+
+    fn tag_pages(n: u64) -> Answer<u64>;
+    fn length(n: u64) -> Answer<u64>;
+    fn page_number(n: u64, bucket: u64) -> Answer<u64>;
+
+    fn probe(tags: &[u8], n: u64, hash: u64, k: u64) -> Answer<Probed>;
+    fn lookup(image: &[u8], n: u64, hash: u64, id: &[u8; 32]) -> Answer<Found>;
+    fn allocate(tags: &mut [u8], n: u64, hash: u64) -> Answer<u64>;
+
+    fn reader_set(log: &[u8]) -> Answer<u32>;
+    fn reader_next(log: &[u8], at: u64) -> Answer<(Entry, u64)>;
+
+    fn begin(log: &mut [u8], w: Writer, sync: u32) -> Answer<Writer>;
+    fn write_clear(log: &mut [u8], w: Writer, bucket: u64) -> Answer<Writer>;
+    fn write_update(
+        log: &mut [u8],
+        w: Writer,
+        id: &[u8; 32],
+        d: Diff,
+        packed: &Packed,
+        elided: &[u8; 8],
+        bucket: u64,
+    ) -> Answer<Writer>;
+    fn finish(log: &mut [u8], w: Writer) -> Answer<(u64, Writer)>;
+
+    fn sync_step(lent: &mut Lent, state: State, change: &Change, page: &[u8]) -> Answer<(Step, State)>;
+    fn sync(lent: &mut Lent, writer: &mut Writer, number: u32, changes: &[Change], pages: &[u8]) -> Synced;
+
+    fn replay(image: &mut [u8], n: u64, log: &[u8], sync: u32, hashes: &[u64]) -> Answer<Replayed>;
+    fn replay_step(image: &mut [u8], n: u64, log: &[u8], at: u64, hash: u64) -> Answer<Stepped>;
+
+    fn write_marker(old: u32, new: u32) -> Answer<[u8; 16]>;
+    fn read_marker(bytes: &[u8]) -> Answer<(u32, u32)>;
+    fn pending(meta: u64, file: u64, old: u64, new: u64) -> Answer<Pending>;
+    fn grow(old: &[u8], old_n: u64, new: &mut [u8], new_n: u64, hashes: &[u64]) -> Answer<Grown>;
+
+    fn audit(image: &[u8], n: u64, hashes: &[u64]) -> Answer<Audited>;
+    fn list(log: &[u8]) -> String;
+}
+
+/// Document 01.
+pub struct Model;
+
+impl Engine for Model {
+    fn diff_read(bytes: [u8; 16]) -> Answer<Diff> {
+        model::diff::read(bytes)
+    }
+
+    fn diff_bytes(d: Diff) -> [u8; 16] {
+        d.bytes()
+    }
+
+    fn diff_set(d: Diff, slot: u64) -> Answer<Diff> {
+        model::diff::set(d, slot)
+    }
+
+    fn diff_ask(d: Diff, slot: u64) -> Answer<bool> {
+        model::diff::ask(d, slot)
+    }
+
+    fn diff_set_cleared(d: Diff) -> Diff {
+        d.set_cleared()
+    }
+
+    fn diff_cleared(d: Diff) -> bool {
+        d.cleared()
+    }
+
+    fn diff_count(d: Diff) -> u64 {
+        d.count()
+    }
+
+    fn diff_join(a: Diff, b: Diff) -> Diff {
+        a.join(b)
+    }
+
+    fn pack(d: Diff, page: &[u8]) -> Answer<Packed> {
+        model::diff::pack(d, page)
+    }
+
+    fn unpack(d: Diff, packed: &Packed, page: &mut [u8]) -> Answer<()> {
+        model::diff::unpack(d, packed, page)
+    }
+
+    fn full_tag(hash: u64) -> u8 {
+        model::tags::full_tag(hash)
+    }
+
+    fn kind(tag: u8) -> Kind {
+        model::tags::kind(tag)
+    }
+
+    fn set_full(tags: &mut [u8], n: u64, bucket: u64, hash: u64) -> Answer<()> {
+        model::tags::set(tags, n, bucket, model::tags::full_tag(hash))
+    }
+
+    fn set_tombstone(tags: &mut [u8], n: u64, bucket: u64) -> Answer<()> {
+        model::tags::set(tags, n, bucket, model::tags::TOMBSTONE)
+    }
+
+    fn full_count(tags: &[u8], n: u64) -> Answer<u64> {
+        model::tags::full_count(tags, n)
+    }
+
+    fn padding_is_zero(tags: &[u8], n: u64) -> Answer<bool> {
+        model::tags::padding_is_zero(tags, n)
+    }
+
+    fn tag_page(bucket: u64) -> u64 {
+        model::tags::page_index(bucket)
+    }
+
+    fn tag_pages(n: u64) -> Answer<u64> {
+        model::places::tag_pages(n)
+    }
+
+    fn length(n: u64) -> Answer<u64> {
+        model::places::length(n)
+    }
+
+    fn page_number(n: u64, bucket: u64) -> Answer<u64> {
+        model::places::page_number(n, bucket)
+    }
+
+    fn probe(tags: &[u8], n: u64, hash: u64, k: u64) -> Answer<Probed> {
+        model::path::probe(tags, n, hash, k)
+    }
+
+    fn lookup(image: &[u8], n: u64, hash: u64, id: &[u8; 32]) -> Answer<Found> {
+        model::path::lookup(image, n, hash, id)
+    }
+
+    fn allocate(tags: &mut [u8], n: u64, hash: u64) -> Answer<u64> {
+        model::path::allocate(tags, n, hash)
+    }
+
+    fn reader_set(log: &[u8]) -> Answer<u32> {
+        model::reader::set(log)
+    }
+
+    fn reader_next(log: &[u8], at: u64) -> Answer<(Entry, u64)> {
+        model::reader::next(log, at)
+    }
+
+    fn begin(log: &mut [u8], _w: Writer, sync: u32) -> Answer<Writer> {
+        model::writer::begin(log, sync)
+    }
+
+    fn write_clear(log: &mut [u8], w: Writer, bucket: u64) -> Answer<Writer> {
+        model::writer::clear(log, w, bucket)
+    }
+
+    fn write_update(
+        log: &mut [u8],
+        w: Writer,
+        id: &[u8; 32],
+        d: Diff,
+        packed: &Packed,
+        elided: &[u8; 8],
+        bucket: u64,
+    ) -> Answer<Writer> {
+        model::writer::update(log, w, id, d, packed, elided, bucket)
+    }
+
+    fn finish(log: &mut [u8], w: Writer) -> Answer<(u64, Writer)> {
+        model::writer::finish(log, w)
+    }
+
+    fn sync_step(lent: &mut Lent, state: State, change: &Change, page: &[u8]) -> Answer<(Step, State)> {
+        model::sync::step(lent, state, change, page)
+    }
+
+    fn sync(lent: &mut Lent, writer: &mut Writer, number: u32, changes: &[Change], pages: &[u8]) -> Synced {
+        model::sync::sync(lent, writer, number, changes, pages)
+    }
+
+    fn replay(image: &mut [u8], n: u64, log: &[u8], sync: u32, hashes: &[u64]) -> Answer<Replayed> {
+        model::replay::replay(image, n, log, sync, hashes)
+    }
+
+    fn replay_step(image: &mut [u8], n: u64, log: &[u8], at: u64, hash: u64) -> Answer<Stepped> {
+        model::replay::step(image, n, log, at, hash)
+    }
+
+    fn write_marker(old: u32, new: u32) -> Answer<[u8; 16]> {
+        model::growth::write_marker(old, new)
+    }
+
+    fn read_marker(bytes: &[u8]) -> Answer<(u32, u32)> {
+        model::growth::read_marker(bytes)
+    }
+
+    fn pending(meta: u64, file: u64, old: u64, new: u64) -> Answer<Pending> {
+        model::growth::pending(meta, file, old, new)
+    }
+
+    fn grow(old: &[u8], old_n: u64, new: &mut [u8], new_n: u64, hashes: &[u64]) -> Answer<Grown> {
+        model::growth::grow(old, old_n, new, new_n, hashes)
+    }
+
+    fn audit(image: &[u8], n: u64, hashes: &[u64]) -> Answer<Audited> {
+        model::audit::audit(image, n, hashes)
+    }
+
+    fn list(log: &[u8]) -> String {
+        model::list::list(log)
+    }
+}

@@ -1,0 +1,107 @@
+//! Compares the original, document 01 and ours: the same inputs to all, every answer and every byte
+//! held against each other.
+
+mod engine;
+#[cfg(feature = "ours")]
+mod ffi;
+mod input;
+mod ops;
+#[cfg(feature = "ours")]
+mod ours;
+mod rng;
+mod run;
+
+use rng::{mixed, Rng};
+use run::{Budget, Op, Out, Run};
+
+/// Ours, where it is linked.
+#[cfg(feature = "ours")]
+fn ours_run<O: Op>(input: &O::Input) -> Option<Out> {
+    Some(O::run::<ours::Ours>(input))
+}
+
+#[cfg(not(feature = "ours"))]
+fn ours_run<O: Op>(_input: &O::Input) -> Option<Out> {
+    None
+}
+
+type Exhaustive = fn(&mut Run);
+type Random = fn(&mut Run, &mut Rng);
+
+/// The parts by name: all short inputs, inputs by chance, and how often in 100 times the part is taken.
+const PARTS: [(&str, Exhaustive, Random, u64); 11] = [
+    ("diff", ops::diff::exhaustive, ops::diff::random, 20),
+    ("tags", ops::tags::exhaustive, ops::tags::random, 10),
+    ("places", ops::places::exhaustive, ops::places::random, 5),
+    ("path", ops::path::exhaustive, ops::path::random, 25),
+    ("read", ops::read::exhaustive, ops::read::random, 15),
+    ("write", ops::write::exhaustive, ops::write::random, 10),
+    ("sync", ops::sync::exhaustive, ops::sync::random, 15),
+    ("replay", ops::replay::exhaustive, ops::replay::random, 15),
+    ("growth", ops::growth::exhaustive, ops::growth::random, 5),
+    ("audit", ops::audit::exhaustive, ops::audit::random, 5),
+    ("rounds", ops::rounds::exhaustive, ops::rounds::random, 2),
+];
+
+const USAGE: &str = "\
+compare [--seconds S | --cases C] [--seed N] [--only PART,PART..]
+  All short inputs first, then inputs by chance until S seconds have passed or C cases are done
+  (default: 120 seconds). The seed is printed; the same seed gives the same inputs.";
+
+fn main() {
+    // An error of the original would else carry a backtrace.
+    std::env::set_var("RUST_LIB_BACKTRACE", "0");
+    let mut budget = Budget::Seconds(120);
+    let mut seed = std::time::UNIX_EPOCH.elapsed().map_or(1, |t| mixed(t.as_nanos() as u64) >> 32);
+    let mut only: Option<Vec<String>> = None;
+    let mut args = std::env::args().skip(1);
+    while let Some(arg) = args.next() {
+        let value = args.next();
+        match (arg.as_str(), value.as_deref(), value.as_deref().and_then(|v| v.parse().ok())) {
+            ("--seconds", _, Some(s)) => budget = Budget::Seconds(s),
+            ("--cases", _, Some(c)) => budget = Budget::Cases(c),
+            ("--seed", _, Some(s)) => seed = s,
+            ("--only", Some(parts), _) => only = Some(parts.split(',').map(str::to_string).collect()),
+            _ => {
+                eprintln!("{USAGE}");
+                std::process::exit(2);
+            }
+        }
+    }
+    let parts: Vec<_> =
+        PARTS.iter().filter(|(name, ..)| only.as_ref().is_none_or(|only| only.iter().any(|o| o == name))).collect();
+    if parts.is_empty() {
+        eprintln!("parts: {}", PARTS.map(|(name, ..)| name).join(", "));
+        std::process::exit(2);
+    }
+
+    let checks = if cfg!(debug_assertions) { "with debug assertions and overflow checks" } else { "as released" };
+    let ours = if cfg!(feature = "ours") { "ours" } else { "ours is not linked" };
+    println!("compare --seed {seed}: document 01, the original {checks}, {ours}");
+    let mut rng = Rng(seed);
+    let mut hash_seed = [0; 16];
+    hash_seed[..8].copy_from_slice(&rng.next().to_le_bytes());
+    hash_seed[8..].copy_from_slice(&rng.next().to_le_bytes());
+    input::HASH_SEED.set(hash_seed).expect("set once");
+    run::watch(120);
+
+    let mut run = Run::new(budget);
+    for (name, exhaustive, ..) in &parts {
+        eprintln!("short inputs: {name}");
+        exhaustive(&mut run);
+    }
+    eprintln!("inputs by chance, after {} cases", run.cases);
+    let weights: u64 = parts.iter().map(|(.., w)| w).sum();
+    while !run.spent() {
+        let mut at = rng.below(weights);
+        for (_, _, random, weight) in &parts {
+            if at < *weight {
+                random(&mut run, &mut rng);
+                break;
+            }
+            at -= weight;
+        }
+    }
+    run.table();
+    std::process::exit((run.differences > 0) as i32);
+}

@@ -1,0 +1,13 @@
+//! The operations, each with its inputs: short ones one after another, and others by chance.
+
+pub mod audit;
+pub mod diff;
+pub mod growth;
+pub mod path;
+pub mod places;
+pub mod read;
+pub mod replay;
+pub mod rounds;
+pub mod sync;
+pub mod tags;
+pub mod write;

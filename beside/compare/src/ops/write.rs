@@ -1,0 +1,321 @@
+//! wal/write.rs: the writer, call by call. A case is a list of calls, and its answer that of the last.
+
+use crate::{
+    engine::Engine,
+    input::{any_diff, good_diff, smaller_diff, smaller_number, words, Filler, Label},
+    rng::Rng,
+    run::{Heard, Op, Out, Run},
+};
+use model::{
+    diff::{Diff, Packed, NODE, SLOTS},
+    writer::Writer,
+    Refused,
+};
+use original::log::Builder;
+
+pub struct WriteOp;
+
+#[derive(Clone, Debug, PartialEq)]
+pub enum Call {
+    Begin(u32),
+    Clear(u64),
+    /// The table of nodes and the elided bytes are a mixture; the count is the diff's if none is given.
+    Update {
+        label: Label,
+        diff: Diff,
+        count: Option<u64>,
+        with: u64,
+        bucket: u64,
+    },
+    Finish,
+    /// From here on the slice is lent up to a length.
+    Lend(usize),
+    /// From here on the writer's state is this.
+    Forge(Writer),
+}
+
+#[derive(Clone, Debug)]
+pub struct Input {
+    pub slice: Filler,
+    pub calls: Vec<Call>,
+}
+
+fn nodes_of(with: u64) -> [[u8; NODE]; SLOTS] {
+    let mut nodes = [[0; NODE]; SLOTS];
+    crate::input::fill(nodes.as_flattened_mut(), with);
+    nodes
+}
+
+fn elided_of(with: u64) -> [u8; 8] {
+    with.wrapping_mul(0x9E37_79B9_7F4A_7C15).to_le_bytes()
+}
+
+fn state_bytes(w: Writer) -> Vec<u8> {
+    let (kind, at) = match w {
+        Writer::Fresh => (0u64, 0),
+        Writer::Open(at) => (1, at),
+        Writer::Finished(len) => (2, len),
+    };
+    [kind.to_le_bytes(), at.to_le_bytes()].concat()
+}
+
+/// The calls, one after the other; after each, `seen` is told its answer, the state and the slice.
+fn calls<E: Engine>(input: &Input, mut seen: impl FnMut(&Call, Option<Refused>, Writer, &[u8])) -> Out {
+    let mut slice = input.slice.bytes();
+    let mut lent = slice.len();
+    let mut w = Writer::Fresh;
+    let mut out = Out::value("nothing", &[]);
+    for call in &input.calls {
+        let log = &mut slice[..lent];
+        let said = match call {
+            Call::Begin(sync) => E::begin(log, w, *sync),
+            Call::Clear(b) => E::write_clear(log, w, *b),
+            Call::Update { label, diff, count, with, bucket } => {
+                let packed = Packed { nodes: nodes_of(*with), count: count.unwrap_or(diff.count()) };
+                E::write_update(log, w, &label.id(), *diff, &packed, &elided_of(*with), *bucket)
+            }
+            Call::Finish => E::finish(log, w).map(|(len, after)| {
+                // The length is answered beside the state, which holds it too.
+                if after == Writer::Finished(len) {
+                    after
+                } else {
+                    Writer::Fresh
+                }
+            }),
+            Call::Lend(len) => {
+                lent = (*len).min(slice.len());
+                Ok(w)
+            }
+            Call::Forge(state) => Ok(*state),
+        };
+        out = match said {
+            Ok(after) => {
+                w = after;
+                Out::value("done", &[])
+            }
+            Err(why) => Out::refused(why),
+        };
+        seen(call, said.err(), w, &slice);
+    }
+    out.with("state", state_bytes(w)).with("slice", slice)
+}
+
+impl Op for WriteOp {
+    type Input = Input;
+
+    fn name(input: &Input) -> &'static str {
+        match input.calls.last() {
+            Some(Call::Begin(_)) => "writer begin",
+            Some(Call::Clear(_)) => "writer clear",
+            Some(Call::Update { .. }) => "writer update",
+            Some(Call::Finish) => "writer finish",
+            _ => "writer other",
+        }
+    }
+
+    fn run<E: Engine>(input: &Input) -> Out {
+        calls::<E>(input, |_, _, _, _| {})
+    }
+
+    /// The original takes the calls that 01 accepts; its buffer has to be the slice after each.
+    fn original(input: &Input, _model: &Out) -> Heard {
+        if input.calls.iter().any(|c| matches!(c, Call::Forge(_))) {
+            return Heard::NotAsked;
+        }
+        let size = if input.slice.with % 2 == 0 { 4096 } else { 1 << 16 };
+        let mut builder = match Builder::with_initial_size(size) {
+            Ok(builder) => builder,
+            Err(trouble) => return trouble.into(),
+        };
+        let mut held = Ok(());
+        let mut asked = false;
+        calls::<crate::engine::Model>(input, |call, refused, w, slice| {
+            if refused.is_some() || held.is_err() {
+                return;
+            }
+            let said = match call {
+                Call::Begin(sync) => builder.reset(*sync),
+                Call::Clear(b) => builder.write_clear(*b),
+                Call::Update { label, diff, with, bucket, .. } => {
+                    let nodes = nodes_of(*with);
+                    let nodes = &nodes[..diff.count() as usize];
+                    builder.write_update(label.id(), words(*diff), nodes, elided_of(*with), *bucket)
+                }
+                Call::Finish => builder.finalize(),
+                Call::Lend(_) | Call::Forge(_) => return,
+            };
+            asked = true;
+            let (Writer::Open(at) | Writer::Finished(at)) = w else { return };
+            if let Err(trouble) = said {
+                held = Err(format!("{trouble:?} at {call:?}"));
+            } else if builder.position() as u64 != at {
+                held = Err(format!("position {} after {call:?}, 01: {at}", builder.position()));
+            } else if builder.bytes() != &slice[..at as usize] {
+                held = Err(format!("other bytes after {call:?}"));
+            }
+        });
+        if asked {
+            Heard::Held(held)
+        } else {
+            Heard::NotAsked
+        }
+    }
+
+    fn smaller(input: &Input) -> Vec<Input> {
+        let mut out = Vec::new();
+        for i in 0..input.calls.len() {
+            let mut less = input.clone();
+            less.calls.remove(i);
+            out.push(less);
+        }
+        for (i, call) in input.calls.iter().enumerate() {
+            let mut put = |call| {
+                let mut less = input.clone();
+                less.calls[i] = call;
+                out.push(less);
+            };
+            match call.clone() {
+                Call::Begin(s) => smaller_number(s as u64).into_iter().for_each(|s| put(Call::Begin(s as u32))),
+                Call::Clear(b) => smaller_number(b).into_iter().for_each(|b| put(Call::Clear(b))),
+                Call::Update { label, diff, count, with, bucket } => {
+                    let make = |label, diff, count, with, bucket| Call::Update { label, diff, count, with, bucket };
+                    smaller_diff(diff).into_iter().for_each(|d| put(make(label, d, count, with, bucket)));
+                    label.smaller().into_iter().for_each(|l| put(make(l, diff, count, with, bucket)));
+                    smaller_number(bucket).into_iter().for_each(|b| put(make(label, diff, count, with, b)));
+                    smaller_number(with).into_iter().for_each(|w| put(make(label, diff, count, w, bucket)));
+                    if count.is_some() {
+                        put(make(label, diff, None, with, bucket));
+                    }
+                }
+                Call::Lend(len) => smaller_number(len as u64).into_iter().for_each(|l| put(Call::Lend(l as usize))),
+                Call::Finish | Call::Forge(_) => {}
+            }
+        }
+        for len in smaller_number(input.slice.len as u64) {
+            out.push(Input { slice: Filler { len: len as usize, ..input.slice }, ..input.clone() });
+        }
+        out.extend(input.slice.smaller().into_iter().map(|slice| Input { slice, ..input.clone() }));
+        out
+    }
+}
+
+fn update(diff: u128, bucket: u64) -> Call {
+    Call::Update { label: Label { hash: 99 ^ bucket, free: 2 }, diff: Diff(diff), count: None, with: 5, bucket }
+}
+
+/// A list of calls and all that it begins with.
+fn prefixes(run: &mut Run, slice: Filler, calls: &[Call]) {
+    for end in 1..=calls.len() {
+        run.case::<WriteOp>(Input { slice, calls: calls[..end].to_vec() });
+    }
+}
+
+pub fn exhaustive(run: &mut Run) {
+    let full = (1 << 126) - 1;
+    let kinds = [
+        Call::Begin(7),
+        Call::Clear(0),
+        Call::Clear(u64::MAX),
+        update(0, 1),
+        update(5, u64::MAX),
+        update(full, 2),
+        update(1 << 126, 2),
+        update(1 << 127 | 1, 2),
+        Call::Update { label: Label { hash: 1, free: 1 }, diff: Diff(3), count: Some(1), with: 5, bucket: 0 },
+        Call::Update { label: Label { hash: 1, free: 1 }, diff: Diff(1 << 127), count: Some(0), with: 5, bucket: 0 },
+        Call::Finish,
+    ];
+    // All lists of up to three calls, after begin and without it, in slices around each boundary.
+    for len in [0, 1, 4095, 4096, 4097, 8191, 8192, 8193, 12288] {
+        for with in [2, 3] {
+            let slice = Filler { len, with };
+            for a in &kinds {
+                for b in &kinds {
+                    run.case::<WriteOp>(Input { slice, calls: vec![a.clone()] });
+                    run.case::<WriteOp>(Input { slice, calls: vec![a.clone(), b.clone()] });
+                    for c in &kinds {
+                        if len >= 4096 || with == 2 {
+                            run.case::<WriteOp>(Input { slice, calls: vec![a.clone(), b.clone(), c.clone()] });
+                            let begun = vec![Call::Begin(1), a.clone(), b.clone(), c.clone()];
+                            run.case::<WriteOp>(Input { slice, calls: begun });
+                        }
+                    }
+                }
+            }
+        }
+    }
+    // Up to the last byte: so many clears and empty updates that each number of bytes is left.
+    for len in [4096, 8192, 8191 + 4096] {
+        let capacity = len / 4096 * 4096;
+        for left in 0..=120 {
+            let before: usize = capacity - 5 - left;
+            let Some(updates) = (0..9).find(|u| (before - 65 * u) % 9 == 0) else { continue };
+            let mut calls = vec![Call::Begin(3)];
+            calls.extend(vec![update(0, 4); updates]);
+            calls.extend(vec![Call::Clear(9); (before - 65 * updates) / 9]);
+            for last in [Call::Clear(1), update(0, 1), update(1, 1), Call::Finish] {
+                let mut calls = calls.clone();
+                calls.push(last);
+                calls.push(Call::Finish);
+                let slice = Filler { len, with: 2 };
+                run.case::<WriteOp>(Input { slice, calls: calls[..calls.len() - 1].to_vec() });
+                run.case::<WriteOp>(Input { slice, calls });
+            }
+        }
+    }
+    // Shorter slices, and states that no call answered.
+    let two = Filler { len: 8192, with: 4 };
+    for len in [0, 4095, 4096, 4097, 8191, 8192] {
+        for at in [0, 4, 5, 4095, 4096, 4097, 8191, 8192, u64::MAX - 9, u64::MAX] {
+            for last in [Call::Clear(1), update(1, 1), update(full, 1), Call::Finish, Call::Begin(8)] {
+                for state in [Writer::Open(at), Writer::Finished(at), Writer::Fresh] {
+                    let calls = vec![Call::Lend(len), Call::Forge(state), last.clone()];
+                    run.case::<WriteOp>(Input { slice: two, calls });
+                }
+            }
+        }
+        let long = [Call::Begin(7), update(full, 1), Call::Lend(len), Call::Finish, Call::Lend(8192), Call::Finish];
+        prefixes(run, two, &long);
+    }
+    let mut clears = vec![Call::Begin(1)];
+    clears.extend((0..455).map(Call::Clear));
+    clears.push(Call::Finish);
+    prefixes(run, Filler { len: 4096, with: 1 }, &clears);
+}
+
+fn any_call(rng: &mut Rng) -> Call {
+    match rng.below(20) {
+        0 => Call::Begin(rng.number() as u32),
+        1 => Call::Finish,
+        2 => Call::Lend(rng.below(20_000) as usize),
+        3..=9 => Call::Clear(rng.number()),
+        _ => {
+            let diff = if rng.once_in(20) { any_diff(rng) } else { good_diff(rng) };
+            let count = rng.once_in(20).then(|| rng.below(130));
+            let label = Label { hash: rng.next(), free: rng.below(3) };
+            Call::Update { label, diff, count, with: rng.below(1 << 16), bucket: rng.number() }
+        }
+    }
+}
+
+pub fn random(run: &mut Run, rng: &mut Rng) {
+    let len = match rng.below(4) {
+        0 => rng.below(20_000),
+        1 => rng.pick(&[4095, 4096, 4097, 8191, 8192, 8193, 16_384]),
+        _ => 4096 * rng.within(1, 6),
+    };
+    let slice = Filler { len: len as usize, with: rng.below(1 << 16) };
+    let mut calls = Vec::new();
+    if !rng.once_in(20) {
+        calls.push(Call::Begin(rng.number() as u32));
+    }
+    for _ in 0..rng.below(30) {
+        calls.push(any_call(rng));
+    }
+    if rng.once_in(30) {
+        calls.push(Call::Forge(Writer::Open(rng.number())));
+        calls.push(any_call(rng));
+    }
+    calls.push(if rng.once_in(2) { Call::Finish } else { any_call(rng) });
+    run.case::<WriteOp>(Input { slice, calls });
+}

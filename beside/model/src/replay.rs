@@ -1,0 +1,98 @@
+//! Replay: "the whole log is read before the image is touched. Update: full tag, marked slots, last 40
+//! bytes. Clear: tombstone."
+
+use crate::{
+    diff::NODE,
+    places::{image_fits, page_at, ELIDED_AT, ID_AT},
+    reader::{self, Entry},
+    tags::{full_tag, TOMBSTONE},
+    unless, Answer,
+};
+
+#[derive(Clone, Copy, Debug, PartialEq, Eq)]
+pub enum Replayed {
+    Nothing,
+    Stale,
+    Applied,
+}
+
+/// In order: 1, nothing, 5, 7, stale, then the first bad entry, last the hash count 2.
+pub fn replay(image: &mut [u8], n: u64, log: &[u8], sync: u32, hashes: &[u64]) -> Answer<Replayed> {
+    image_fits(image, n)?;
+    if log.is_empty() {
+        return Ok(Replayed::Nothing);
+    }
+    if reader::set(log)? != sync {
+        return Ok(Replayed::Stale);
+    }
+    let entries = entries(log, n)?;
+    let updates = entries.iter().filter(|e| matches!(e, Entry::Update { .. })).count();
+    unless(hashes.len() == updates, 2)?;
+
+    let mut hashes = hashes.iter();
+    for entry in &entries {
+        match entry {
+            Entry::Update { .. } => apply(image, n, entry, *hashes.next().expect("one for each update")),
+            _ => apply(image, n, entry, 0),
+        }
+    }
+    Ok(Replayed::Applied)
+}
+
+/// The entries of a log that begins with a start, each with a bucket below n.
+fn entries(log: &[u8], n: u64) -> Answer<Vec<Entry>> {
+    let mut entries = Vec::new();
+    let mut at = reader::FIRST;
+    loop {
+        let (entry, next) = entry(log, n, at)?;
+        if entry == Entry::End {
+            return Ok(entries);
+        }
+        entries.push(entry);
+        at = next;
+    }
+}
+
+fn entry(log: &[u8], n: u64, at: u64) -> Answer<(Entry, u64)> {
+    let (entry, next) = reader::next(log, at)?;
+    if let Entry::Clear { bucket } | Entry::Update { bucket, .. } = entry {
+        unless(bucket < n, 9)?;
+    }
+    Ok((entry, next))
+}
+
+/// What an entry does to an image that fits.
+fn apply(image: &mut [u8], n: u64, entry: &Entry, hash: u64) {
+    match entry {
+        Entry::End => {}
+        Entry::Clear { bucket } => image[*bucket as usize] = TOMBSTONE,
+        Entry::Update { id, diff, nodes, elided, bucket } => {
+            image[*bucket as usize] = full_tag(hash);
+            let page = &mut image[page_at(n, *bucket)..];
+            for (slot, node) in diff.slots().into_iter().zip(nodes) {
+                page[NODE * slot..NODE * (slot + 1)].copy_from_slice(node);
+            }
+            page[ELIDED_AT..ID_AT].copy_from_slice(elided);
+            page[ID_AT..ID_AT + 32].copy_from_slice(id);
+        }
+    }
+}
+
+#[derive(Clone, Copy, Debug, PartialEq, Eq)]
+pub enum Stepped {
+    Cleared { next: u64 },
+    Updated { next: u64 },
+    End,
+}
+
+/// One entry of a log, applied: "each entry is applied by one step". In order: 1, the entry's.
+pub fn step(image: &mut [u8], n: u64, log: &[u8], at: u64, hash: u64) -> Answer<Stepped> {
+    image_fits(image, n)?;
+    let (entry, next) = entry(log, n, at)?;
+    apply(image, n, &entry, hash);
+    Ok(match entry {
+        Entry::Clear { .. } => Stepped::Cleared { next },
+        Entry::Update { .. } => Stepped::Updated { next },
+        Entry::End => Stepped::End,
+    })
+}

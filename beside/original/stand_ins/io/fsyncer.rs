@@ -1,0 +1,1 @@
+// Stand-in: nothing here syncs on another thread.
