@@ -1,6 +1,7 @@
 // Growths, markers, pending decisions and audits at the edges that document 01 names. Each line is a call
 // and its answer; a growth's also has the new image's first tags, its bytes that are not zero, and a sum
-// over all of them. The file `stdout` is worked out from document 01 apart from this code.
+// over all of them. The file `stdout` is worked out from document 01 apart from this code. Images of more
+// than some 1,800 pages, as 4,096 buckets have, are above a program's stack; beside/ has those.
 ghost use Prim.Native.Nat.{_≤_, _<_};
 use answers::Outcome;
 use answers::Refusal;
@@ -257,13 +258,16 @@ fn counts_refused() {
     grown_of(1048577, 8192, 1, 8192, 1);
     grown_of(1, 8192, 1048577, 12288, 1);
     grown_of(4294967297, 8192, 4294967298, 12288, 1);
+}
+
+fn counts_not_larger() {
     grown_of(2, 12288, 1, 8192, 2);
     grown_of(2, 0, 1, 0, 0);
+    grown_of(1, 8192, 1, 8192, 1);
+    grown_of(2, 0, 2, 5, 3);
 }
 
 fn lengths_refused() {
-    grown_of(1, 8192, 1, 8192, 1);
-    grown_of(2, 0, 2, 5, 3);
     grown_of(1, 8191, 2, 12288, 1);
     grown_of(1, 8193, 2, 12288, 1);
     grown_of(1, 8192, 2, 12287, 1);
@@ -342,16 +346,26 @@ fn reads() {
     read(16, 8, 16, 0);
     read(16, 5, 8, 0);
     read(16, 0, 15, 1);
+}
+
+fn lengths_read() {
     read(0, 8, 16, 0);
     read(15, 8, 16, 0);
     read(17, 8, 16, 0);
     read(15, 4, 0, 0);
+}
+
+// Each byte of the magic as 1.
+fn magic_read() {
     let mut i = 0;
     while i < 8 {
         read(16, 8, i, 1);
         i += 1;
     }
     read(16, 4, 7, 1);
+}
+
+fn orders_read() {
     read(16, 4, 16, 0);
     read(16, 3, 16, 0);
     read(16, 8, 11, 1);
@@ -384,6 +398,9 @@ fn pending_cases() {
     decided(4, 5, 4, 20479);
     decided(4, 5, 6, 24576);
     decided(4, 5, 6, 28672);
+}
+
+fn pending_edges() {
     decided(0, 1, 0, 0);
     decided(0, 1, 0, 8192);
     decided(0, 1, 1, 0);
@@ -453,6 +470,9 @@ fn audits_refused() {
     audit_of(2, 8192, 3);
     audit_of(1048577, 12288, 2);
     audit_of(4294967298, 12288, 2);
+}
+
+fn hashes_refused() {
     audit_of(2, 12288, 1);
     audit_of(2, 12288, 3);
     audit_of(2, 12288, 2);
@@ -508,6 +528,9 @@ fn label_cases() {
     four(b"label of a tombstone", label(2), 10, 0, TOMBSTONE, 1);
     four(b"label of a tag of no kind", label(2), 10, 0, 0x7E, 1);
     four(b"label in an empty bucket", label(3), 10, NOWHERE, 0, 1);
+}
+
+fn label_orders() {
     four(
         b"label twice and a wrong tag there",
         label(2),
@@ -639,11 +662,16 @@ fn many(title: &[u8], full: usize, i: usize, byte: u8, j: usize, other: u8, hash
     audited(title, &image, 96, &hashes);
 }
 
-// With up to 64 full buckets labels are searched for, with more they are sifted first.
-fn many_cases() {
+// Up to 64 labels are searched for one by one.
+fn many_searched() {
     let h = hash_of(5);
     many(b"64 full", 64, NOWHERE, 0, NOWHERE, 0, h);
     many(b"64 full, label twice", 64, label(63) + 3, 0, NOWHERE, 0, h);
+}
+
+// More are sifted first.
+fn many_sifted() {
+    let h = hash_of(5);
     many(b"65 full", 65, NOWHERE, 0, NOWHERE, 0, h);
     many(b"65 full, label twice", 65, label(64) + 3, 0, NOWHERE, 0, h);
     many(
@@ -664,6 +692,10 @@ fn many_cases() {
         TOMBSTONE,
         h,
     );
+}
+
+fn many_full() {
+    let h = hash_of(5);
     many(b"96 full", 96, NOWHERE, 0, NOWHERE, 0, h);
     many(
         b"96 full, last label twice",
@@ -720,28 +752,57 @@ fn many_unreached() {
     );
 }
 
-fn main() {
+fn growths() {
     one_to_two();
     four_to_five(b"4 to 5, four of hash 0", 0, 0);
     four_to_five(b"4 to 5, the last without a hit", 0, TAG_81);
     four_to_five(b"4 to 5", TAG_81, 2);
     sixty_to_seventy();
     counts_refused();
+    counts_not_larger();
     lengths_refused();
+}
+
+fn markers() {
     writes();
     reads();
+    lengths_read();
+    magic_read();
+    orders_read();
+}
+
+fn decisions() {
     pending_cases();
+    pending_edges();
     pending_refused();
+}
+
+fn small_audits() {
     audits_refused();
+    hashes_refused();
     padding_cases();
     label_cases();
+    label_orders();
     tag_cases();
     path_cases();
     unreached_cases();
+}
+
+fn other_audits() {
     one(0x80);
     one(0x81);
     one(TOMBSTONE);
     third();
-    many_cases();
+    many_searched();
+    many_sifted();
+    many_full();
     many_unreached();
+}
+
+fn main() {
+    growths();
+    markers();
+    decisions();
+    small_audits();
+    other_audits();
 }
