@@ -20,6 +20,7 @@ const RESERVED: u64 = 0x4000_0000_0000_0000;
 
 // Bit i of words[w] marks slot 64w + i. Slots 0 to 125 are a page's nodes, 126 is never used, and 127
 // says that the page was cleared.
+#[repr(C)]
 pub struct Diff {
     pub words: [u64; 2],
 }
@@ -37,6 +38,7 @@ pub struct NextSlot {
 }
 
 // The nodes of the marked slots in the slots' order, with their count; zeros from the count on.
+#[repr(C)]
 pub struct Packed {
     pub nodes: [[u8; 32]; 126],
     pub count: usize,

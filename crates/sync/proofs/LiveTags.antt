@@ -14,7 +14,7 @@ use Rattle.meta_map.specs.Tags.{fullTag}
 use Rattle.page_diff.specs.Diff.{marked, slots}
 use Rattle.page_diff.specs.Pack.{nodeAt}
 use Rattle.recover.specs.Places.{pageGives, entryGives}
-use Rattle.sync.specs.Change.{Mem, Named, bucket, none, namedBy, tagFits, updates, doesWith, byNamed, doesOf, Effect, cleared, updated, allocated, bucketOf, effectOf, entryBy, tagsBy}
+use Rattle.sync.specs.Change.{whereOf, Mem, Named, bucket, none, namedBy, tagFits, updates, doesWith, byNamed, doesOf, Effect, cleared, updated, allocated, bucketOf, effectOf, entryBy, tagsBy}
 use Rattle.sync.specs.declared.Change.{Change}
 use Rattle.sync.specs.declared.SyncState.{SyncState}
 use Rattle.sync.proofs.Accepted.{after-updated, accepted-change}
@@ -53,7 +53,7 @@ tags-as-entry st m page c (updated b) h i l = go (eqb i b) refl
     tag : getD (m .tags) b 0 ≡ fullTag (c .hash)
     tag =
         let d = after-updated st m c (doesOf (st .n) (m .tags) (m .cells) c) b (accepted-change st m page c (updated b) h .2) in
-        named-tag (marked (c .diff .words) 127) (st .n) (m .tags) (c .hash) (namedBy (c .place) (m .cells)) b (past-spare (st .n) (m .tags) (m .cells) c (updates b) (d .0) .1)
+        named-tag (marked (c .diff .words) 127) (st .n) (m .tags) (c .hash) (namedBy (whereOf (c .place)) (m .cells)) b (past-spare (st .n) (m .tags) (m .cells) c (updates b) (d .0) .1)
 
     go : (t : Bool) → eqb i b ≡ t → getD (m .tags) i 0 ≡ cond t (entryGives (st .n) (entryBy c page (updated b)) (c .hash) i) (getD (m .tags) i 0)
     go false q = refl

@@ -16,7 +16,7 @@ use Rattle.probe.specs.Path.{isFree, allocating, allocateAnswer, hitLimit}
 use Rattle.probe.proofs.Promises.{AllocatedAt, allocated-bucket}
 use Rattle.page_diff.specs.Diff.{marked}
 use Rattle.wal.specs.Writer.{finishAnswer}
-use Rattle.sync.specs.Change.{Mem, memOf, Named, bucket, none, namedBy, tagFits, Does, clears, updates, allocates, doesWith, byNamed, doesOf, Effect, cleared, updated, allocated, byBucket, afterDoes, effectOf, tagsIf, memBy, stateBy}
+use Rattle.sync.specs.Change.{whereOf, Mem, memOf, Named, bucket, none, namedBy, tagFits, Does, clears, updates, allocates, doesWith, byNamed, doesOf, Effect, cleared, updated, allocated, byBucket, afterDoes, effectOf, tagsIf, memBy, stateBy}
 use Rattle.sync.specs.Sync.{pageOf, Came, through, refusedAt, orRest, orMem, changeAt, changeMem, allOf, memAll, beforeChanges, startMem, startState, saidDone, saidFinish, saidBy, saidIf, keptIf, logAfter, came, left, syncSays, syncMem}
 use Rattle.sync.specs.declared.Change.{Change}
 use Rattle.sync.specs.declared.SyncState.{SyncState}
@@ -57,7 +57,7 @@ module _ (st : SyncState) (m : Mem) (page : List ℕ) (c : Change) where
       let f = tags-fit-facts (st .n) (length (m .tags)) (a .0) in
       let d = after-cleared st m c (doesOf (st .n) (m .tags) (m .cells) c) b (a .2) .0 in
       let l = does-clears (st .n) (m .tags) (m .cells) c b d in
-      let k = named-full (marked (c .diff .words) 127) (st .n) (m .tags) (c .hash) (namedBy (c .place) (m .cells)) b (past-spare (st .n) (m .tags) (m .cells) c (clears b) d .1) in
+      let k = named-full (marked (c .diff .words) 127) (st .n) (m .tags) (c .hash) (namedBy (whereOf (c .place)) (m .cells)) b (past-spare (st .n) (m .tags) (m .cells) c (clears b) d .1) in
       omega (arith, count-set full (m .tags) b 0x7F (st .n) l (omega arith), ap one k)
   occupied-kept (given (allocated b)) h o =
       let a = accepted-change st m page c (allocated b) h in

@@ -15,7 +15,7 @@ use Rattle.answers.specs.declared.Truth.{Truth}
 use Rattle.answers.specs.declared.Truth.the-variants as truth
 use Rattle.answers.proofs.Truth as TruthT
 use Rattle.page_diff.specs.Diff.{marked, reserved, askAnswer}
-use Rattle.sync.specs.Change.{Named, bucket, none, namedBy, nameSaid, tagFits, Does, clears, updates, allocates, doesWith, byNamed, doesOf, cellsAt}
+use Rattle.sync.specs.Change.{whereOf, placeOf, Named, bucket, none, namedBy, nameSaid, tagFits, Does, clears, updates, allocates, doesWith, byNamed, doesOf, cellsAt}
 use Rattle.sync.specs.declared.Change.{Change}
 use Rattle.sync.specs.declared.Where.{Where}
 use Rattle.sync.specs.declared.Where.the-variants as place
@@ -23,6 +23,12 @@ use Rattle.sync.specs.declared.Name.{Name}
 use Rattle.sync.specs.declared.Name.the-variants as N
 use Rattle.sync.proofs.Where as WhereT
 use Rattle.sync.proofs.Name as NameT
+
+-- the two numbers of a place say where it is
+pub where-place : (w : Where) → whereOf (placeOf w) ≡ w
+where-place (place.Known b) = refl
+where-place place.Fresh = refl
+where-place (place.Cell i) = refl
 
 -- a place that is no cell
 pub no-cell : (w : Where) (b : ℕ) (cells : List ℕ) → OneOf (0 ∷ 1 ∷ []) (tagOf WhereT.the-type w) → cells ≡ cellsAt w b cells
@@ -52,12 +58,12 @@ module _ (n : ℕ) (tags cells : List ℕ) (c : Change) where
 
   pub plan-spare : marked (c .diff .words) 126 ≡ true → doesOf n tags cells c ≡ refused 4
   unfolding doesOf
-  plan-spare e = ap (λ (b : Bool). cond b (refused 4) (byNamed (marked ws 127) n tags (c .hash) (namedBy (c .place) cells))) e
+  plan-spare e = ap (λ (b : Bool). cond b (refused 4) (byNamed (marked ws 127) n tags (c .hash) (namedBy (whereOf (c .place)) cells))) e
 
-  pub plan-by : (clearing : Bool) (a : Answer Named) → marked (c .diff .words) 126 ≡ false → clearing ≡ marked (c .diff .words) 127 → a ≡ namedBy (c .place) cells → doesOf n tags cells c ≡ byNamed clearing n tags (c .hash) a
+  pub plan-by : (clearing : Bool) (a : Answer Named) → marked (c .diff .words) 126 ≡ false → clearing ≡ marked (c .diff .words) 127 → a ≡ namedBy (whereOf (c .place)) cells → doesOf n tags cells c ≡ byNamed clearing n tags (c .hash) a
   unfolding doesOf
   plan-by clearing a e f g =
-      ap (λ (b : Bool). cond b (refused 4) (byNamed (marked ws 127) n tags (c .hash) (namedBy (c .place) cells))) e
+      ap (λ (b : Bool). cond b (refused 4) (byNamed (marked ws 127) n tags (c .hash) (namedBy (whereOf (c .place)) cells))) e
       ∙ sym (ap₂ (λ (b : Bool) (x : Answer Named). byNamed b n tags (c .hash) x) f g)
 
 -- a name that is neither a refusal nor a bucket
@@ -139,28 +145,28 @@ module _ (n : ℕ) (tags : List ℕ) (h : ℕ) where
 
 module _ (n : ℕ) (tags cells : List ℕ) (c : Change) where
   -- an accepted plan has no bit 126
-  pub past-spare : (d : Does) → doesOf n tags cells c ≡ given d → (marked (c .diff .words) 126 ≡ false) × (byNamed (marked (c .diff .words) 127) n tags (c .hash) (namedBy (c .place) cells) ≡ given d)
+  pub past-spare : (d : Does) → doesOf n tags cells c ≡ given d → (marked (c .diff .words) 126 ≡ false) × (byNamed (marked (c .diff .words) 127) n tags (c .hash) (namedBy (whereOf (c .place)) cells) ≡ given d)
   unfolding doesOf
   past-spare d e = go (marked (c .diff .words) 126) refl e
     where
       go : (x : Bool) → marked (c .diff .words) 126 ≡ x
-          → cond (marked (c .diff .words) 126) (refused 4) (byNamed (marked (c .diff .words) 127) n tags (c .hash) (namedBy (c .place) cells)) ≡ given d
-          → (marked (c .diff .words) 126 ≡ false) × (byNamed (marked (c .diff .words) 127) n tags (c .hash) (namedBy (c .place) cells) ≡ given d)
+          → cond (marked (c .diff .words) 126) (refused 4) (byNamed (marked (c .diff .words) 127) n tags (c .hash) (namedBy (whereOf (c .place)) cells)) ≡ given d
+          → (marked (c .diff .words) 126 ≡ false) × (byNamed (marked (c .diff .words) 127) n tags (c .hash) (namedBy (whereOf (c .place)) cells) ≡ given d)
       go true p r =
-          let z : refused 4 ≡ given d = sym (ap (λ (b : Bool). cond b (refused 4) (byNamed (marked (c .diff .words) 127) n tags (c .hash) (namedBy (c .place) cells))) p) ∙ r in
+          let z : refused 4 ≡ given d = sym (ap (λ (b : Bool). cond b (refused 4) (byNamed (marked (c .diff .words) 127) n tags (c .hash) (namedBy (whereOf (c .place)) cells))) p) ∙ r in
           let y : _≡_ {A = ℕ} 0 1 = cc in absurd (omega arith)
-      go false p r = (p, sym (ap (λ (b : Bool). cond b (refused 4) (byNamed (marked (c .diff .words) 127) n tags (c .hash) (namedBy (c .place) cells))) p) ∙ r)
+      go false p r = (p, sym (ap (λ (b : Bool). cond b (refused 4) (byNamed (marked (c .diff .words) 127) n tags (c .hash) (namedBy (whereOf (c .place)) cells))) p) ∙ r)
 
   pub does-clears : (b : ℕ) → doesOf n tags cells c ≡ given (clears b) → b < n
-  does-clears b e = named-clears n tags (c .hash) (marked (c .diff .words) 127) (namedBy (c .place) cells) b (past-spare (clears b) e .1)
+  does-clears b e = named-clears n tags (c .hash) (marked (c .diff .words) 127) (namedBy (whereOf (c .place)) cells) b (past-spare (clears b) e .1)
 
   pub does-updates : (b : ℕ) → doesOf n tags cells c ≡ given (updates b) → (b < n) × (reserved (c .diff .words) ≡ false)
   does-updates b e =
       let p = past-spare (updates b) e in
-      let q = named-updates n tags (c .hash) (marked (c .diff .words) 127) (namedBy (c .place) cells) b (p .1) in
+      let q = named-updates n tags (c .hash) (marked (c .diff .words) 127) (namedBy (whereOf (c .place)) cells) b (p .1) in
       (q .0, ap₂ _||_ (p .0) (q .1))
 
   pub does-allocates : doesOf n tags cells c ≡ given allocates → reserved (c .diff .words) ≡ false
   does-allocates e =
       let p = past-spare allocates e in
-      ap₂ _||_ (p .0) (named-allocates n tags (c .hash) (marked (c .diff .words) 127) (namedBy (c .place) cells) (p .1))
+      ap₂ _||_ (p .0) (named-allocates n tags (c .hash) (marked (c .diff .words) 127) (namedBy (whereOf (c .place)) cells) (p .1))

@@ -21,7 +21,7 @@ use Rattle.wal.specs.declared.Writer.the-variants.{Fresh, Open, Finished}
 use Rattle.wal.proofs.Writer as WriterT
 use Rattle.wal_write.specs.Calls.{roomIn, clearWriter, clearLog, pageUpdate, pageUpdateAnswer, pageUpdateWriter, pageUpdateLog}
 use Rattle.wal_write.proofs.CallLaws.{NotOpen, tested, taken, clear-tests, page-tests}
-use Rattle.sync.specs.Change.{Mem, memOf, Does, clears, updates, allocates, doesOf, Effect, cleared, updated, allocated, bucketOf, afterDoes, effectOf, entryBy, sizeBy, tagsBy, marksBy, cellsBy, occupiedBy, memBy, stateOf, stateBy, pageNumber, outlookSaid}
+use Rattle.sync.specs.Change.{whereOf, Mem, memOf, Does, clears, updates, allocates, doesOf, Effect, cleared, updated, allocated, bucketOf, afterDoes, effectOf, entryBy, sizeBy, tagsBy, marksBy, cellsBy, occupiedBy, memBy, stateOf, stateBy, pageNumber, outlookSaid}
 use Rattle.sync.specs.declared.Change.{Change}
 use Rattle.sync.specs.declared.SyncState.{SyncState}
 use Rattle.sync.specs.declared.Outlook.{Outlook}
@@ -124,7 +124,7 @@ module _ (st : SyncState) (t ks cs l page : List ℕ) (c : Change) where
     ),
   )
 
-  pub given-left : (e : Effect) (said : Answer (ℕ × ℕ)) (s : SyncState) (t′ ks′ cs′ l′ : List ℕ) → effect ≡ given e → said ≡ given (bucketOf e, tagPages (st .n) + bucketOf e) → s ≡ stateOf (st .n) (Open (position (st .writer) + sizeBy c e)) (occupiedBy e (st .occupied)) → t′ ≡ tagsBy e (c .hash) t → ks′ ≡ marksBy e ks → cs′ ≡ cellsBy e (c .place) cs → l′ ≡ put l (position (st .writer)) (recordOf (entryBy c page e)) → Left said s (memOf t′ ks′ cs′ l′)
+  pub given-left : (e : Effect) (said : Answer (ℕ × ℕ)) (s : SyncState) (t′ ks′ cs′ l′ : List ℕ) → effect ≡ given e → said ≡ given (bucketOf e, tagPages (st .n) + bucketOf e) → s ≡ stateOf (st .n) (Open (position (st .writer) + sizeBy c e)) (occupiedBy e (st .occupied)) → t′ ≡ tagsBy e (c .hash) t → ks′ ≡ marksBy e ks → cs′ ≡ cellsBy e (whereOf (c .place)) cs → l′ ≡ put l (position (st .writer)) (recordOf (entryBy c page e)) → Left said s (memOf t′ ks′ cs′ l′)
   given-left e said s t′ ks′ cs′ l′ h a b et ek ec el = (
     a ∙ sym (ap (pageNumber st) h),
     (

@@ -15,7 +15,7 @@ use Rattle.page_diff.specs.Diff.{marked}
 use Rattle.meta_map.specs.Tags.{fullTag}
 use Rattle.wal.specs.Log.{Entry}
 use Rattle.recover.specs.Replay.{bucketOf as entryBucket}
-use Rattle.sync.specs.Change.{Mem, bucket, none, namedBy, tagFits, allocates, doesWith, byNamed, doesOf, Effect, cleared, updated, allocated, bucketOf, effectOf, entryBy, tagsBy, marksBy, cellsAt, memBy, stateBy}
+use Rattle.sync.specs.Change.{whereOf, Mem, bucket, none, namedBy, tagFits, allocates, doesWith, byNamed, doesOf, Effect, cleared, updated, allocated, bucketOf, effectOf, entryBy, tagsBy, marksBy, cellsAt, memBy, stateBy}
 use Rattle.sync.specs.Sync.{pageOf, cameBy, orRest, orMem, changeAt, changeMem, allOf, memAll, entriesBy, entriesOf}
 use Rattle.sync.specs.declared.Change.{Change}
 use Rattle.sync.specs.declared.SyncState.{SyncState}
@@ -125,7 +125,7 @@ unset cl true false n tags h v r = absurd (no-allocation cl (ltb v n) (tagFits c
 unset cl false empty n tags h v r = absurd (given-refused allocates 2 (sym r))
 
 -- "an unset cell, allocates (the cell then has the bucket)"; every other cell is as before
-pub cell-set : (st : SyncState) (m : Mem) (page : List ℕ) (c : Change) (b k : ℕ) → effectOf st m page c ≡ given (allocated b) → c .place ≡ Cell k → (k < length (m .cells)) × (getD (m .cells) k 0 ≡ 2 ^ 64 - 1) × (getD (memBy (given (allocated b)) st m page c .cells) k 0 ≡ b)
+pub cell-set : (st : SyncState) (m : Mem) (page : List ℕ) (c : Change) (b k : ℕ) → effectOf st m page c ≡ given (allocated b) → whereOf (c .place) ≡ Cell k → (k < length (m .cells)) × (getD (m .cells) k 0 ≡ 2 ^ 64 - 1) × (getD (memBy (given (allocated b)) st m page c .cells) k 0 ≡ b)
 cell-set st m page c b k h w =
     let d = after-allocated st m c (doesOf (st .n) (m .tags) (m .cells) c) b (accepted-change st m page c (allocated b) h .2) in
     let p = past-spare (st .n) (m .tags) (m .cells) c allocates (d .0) .1 in
@@ -137,11 +137,11 @@ cell-set st m page c b k h w =
       ap (λ (x : Where). getD (cellsAt x b (m .cells)) k 0) w ∙ getD-set-same (m .cells) k b 0 l,
     )
 
-pub cell-other : (st : SyncState) (m : Mem) (page : List ℕ) (c : Change) (a : Answer Effect) (i : ℕ) → (c .place ≡ Cell i → ⊥) → getD (memBy a st m page c .cells) i 0 ≡ getD (m .cells) i 0
+pub cell-other : (st : SyncState) (m : Mem) (page : List ℕ) (c : Change) (a : Answer Effect) (i : ℕ) → (whereOf (c .place) ≡ Cell i → ⊥) → getD (memBy a st m page c .cells) i 0 ≡ getD (m .cells) i 0
 cell-other st m page c (refused k) i n = refl
 cell-other st m page c (given (cleared b)) i n = refl
 cell-other st m page c (given (updated b)) i n = refl
-cell-other st m page c (given (allocated b)) i n = go (c .place) n
+cell-other st m page c (given (allocated b)) i n = go (whereOf (c .place)) n
   where
     go : (w : Where) → (w ≡ Cell i → ⊥) → getD (cellsAt w b (m .cells)) i 0 ≡ getD (m .cells) i 0
     go (Known x) n = refl

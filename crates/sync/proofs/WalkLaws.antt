@@ -9,12 +9,11 @@ use lib.Seq.{drop-cons, drop-length}
 use Rattle.sync.specs.Change.{Mem}
 use Rattle.sync.specs.Sync.{CameTo, through, changeAt, changeMem, orRest, orMem, allOf, memAll}
 use Rattle.sync.specs.declared.Change.{Change}
-use Rattle.sync.specs.declared.Where.the-variants.{Fresh}
 use Rattle.sync.specs.declared.SyncState.{SyncState}
 
 -- what is read where no change stands
 abbrev pub no-change : Change
-no-change = record { id = []; hash = 0; diff = record { words = [] }; place = Fresh }
+no-change = record { id = []; hash = 0; diff = record { words = [] }; place = record { kind = 0; at = 0 } }
 
 module _ (m : Mem) (pages : List ℕ) (cs : List Change) (i : ℕ) (st : SyncState) (h : i < length cs) where
   abbrev c : Change

@@ -19,6 +19,7 @@ use Rattle.wal.specs.declared.Writer.{Writer}
 use Rattle.wal.specs.declared.Writer.the-variants.{Fresh, Open, Finished}
 use Rattle.sync.specs.declared.Change.{Change}
 use Rattle.sync.specs.declared.Where.{Where}
+use Rattle.sync.specs.declared.Place.{Place}
 use Rattle.sync.specs.declared.Where.the-variants.{Known, Fresh as FreshPage, Cell}
 use Rattle.sync.specs.declared.SyncState.{SyncState}
 use Rattle.sync.specs.declared.Name.{Name}
@@ -50,7 +51,17 @@ pub data Named : Type 0 where
 abbrev pub cellNames : ℕ → Named
 cellNames v = cond (eqb v (2 ^ 64 - 1)) none (bucket v)
 
--- "where (known b, fresh, or cell i)"; "cell index 2"
+-- "where (known b, fresh, or cell i)", as two numbers: 0 is known, 1 fresh, any other a cell
+abbrev pub whereOf : Place → Where
+whereOf p = cond (eqb (p .kind) 0) (Known (p .at)) (cond (eqb (p .kind) 1) FreshPage (Cell (p .at)))
+
+-- and back
+abbrev pub placeOf : Where → Place
+placeOf (Known b) = record { kind = 0; at = b }
+placeOf FreshPage = record { kind = 1; at = 0 }
+placeOf (Cell i) = record { kind = 2; at = i }
+
+-- "cell index 2"
 abbrev pub namedBy : Where → List ℕ → Answer Named
 namedBy (Known b) cells = given (bucket b)
 namedBy FreshPage cells = given none
@@ -80,7 +91,7 @@ byNamed clearing n tags h (given none) = cond clearing (refused 14) (given alloc
 -- "each change: 4, cell index 2, 9, 14": bit 126 is never allowed, bit 127 makes it a clearing change
 unfoldable pub doesOf : ℕ → List ℕ → List ℕ → Change → Answer Does
 doesOf n tags cells c =
-    cond (marked (c .diff .words) 126) (refused 4) (byNamed (marked (c .diff .words) 127) n tags (c .hash) (namedBy (c .place) cells))
+    cond (marked (c .diff .words) 126) (refused 4) (byNamed (marked (c .diff .words) 127) n tags (c .hash) (namedBy (whereOf (c .place)) cells))
 
 -- what an accepted change has done, and to which bucket
 pub data Effect : Type 0 where
@@ -176,7 +187,7 @@ logIf (given e) w c page log = put log (position w) (recordOf (entryBy c page e)
 
 abbrev pub memBy : Answer Effect → SyncState → Mem → List ℕ → Change → Mem
 memBy a st m page c =
-    memOf (tagsIf a (c .hash) (m .tags)) (marksIf a (m .marks)) (cellsIf a (c .place) (m .cells)) (logIf a (st .writer) c page (m .log))
+    memOf (tagsIf a (c .hash) (m .tags)) (marksIf a (m .marks)) (cellsIf a (whereOf (c .place)) (m .cells)) (logIf a (st .writer) c page (m .log))
 
 abbrev pub stateOf : ℕ → Writer → ℕ → SyncState
 stateOf n w o = record { n = n; writer = w; occupied = o }

@@ -10,7 +10,8 @@ ghost use Rattle.answers.specs.Answers.{given, refused};
 ghost use Rattle.answers.specs.Refusals.{numberOf};
 ghost use Rattle.ht_file.specs.Places.{tagsFit, tagPages};
 ghost use Rattle.meta_map.specs.Tags.{full, countOf};
-ghost use Rattle.sync.specs.Change.{memOf, bucket, namedBy, nameSaid, tagFits, byNamed, doesOf, plannedSaid, afterDoes, outlookSaid, outlookFits, cellsAt, takenSaid, pageNumber, effectOf, memBy, stateBy, stateOf};
+ghost use Rattle.sync.specs.Change.{memOf, bucket, whereOf, placeOf, namedBy, nameSaid, tagFits, byNamed, doesOf, plannedSaid, afterDoes, outlookSaid, outlookFits, cellsAt, takenSaid, pageNumber, effectOf, memBy, stateBy, stateOf};
+ghost use Rattle.sync.specs.declared.Where.the-variants.{Known, Fresh as FreshPage, Cell};
 ghost use Rattle.sync.specs.Sync.{changeAt, changeMem, allOf, memAll, walkSaid, walkedSaid, syncSays, syncWriter, syncMem, beforeChanges, startIf, startState, startMem, keptIf, begunSaid, syncedSaid, saidBy, writerAfter, logAfter};
 use answers::Number;
 use answers::Outcome;
@@ -24,6 +25,12 @@ use wal::Writer;
 // A cell that has no bucket yet.
 pub const UNSET: u64 = 0xffff_ffff_ffff_ffff;
 
+const KNOWN: u64 = 0;
+
+const FRESH: u64 = 1;
+
+const CELL: u64 = 2;
+
 // Where a page's bucket is known from: it is known; the page is new; or a cell has it, or will have it.
 pub enum Where {
     Known(u64),
@@ -31,13 +38,22 @@ pub enum Where {
     Cell(usize),
 }
 
+// The same as two numbers, for records that cross the boundary to C: 0 is a known bucket, 1 a new page,
+// and any other kind a cell.
+#[repr(C)]
+pub struct Place {
+    pub kind: u64,
+    pub at: u64,
+}
+
 // A change of a page: its id and hash, the slots that changed, and where its bucket is known from. A
 // diff with the mark of a cleared page clears it.
+#[repr(C)]
 pub struct Change {
     pub id: [u8; 32],
     pub hash: u64,
     pub diff: Diff,
-    pub place: Where,
+    pub place: Place,
 }
 
 // What a sync carries from change to change: the count of buckets, where its log stands, and how many
@@ -97,10 +113,48 @@ enum Planned {
     Refused(Refusal),
 }
 
-// The bucket that is known, or that the cell has.
-fn name_of(place: Where, cells: &[u64]) -> Name
-    ensures { λ r. ⌜ nameSaid r ≡ namedBy place (now (cells .entry)) ⌝ }
+// Where a place says that the bucket is known from.
+pub fn where_of(p: Place) -> Where
+    ensures { λ r. ⌜ r ≡ whereOf p ⌝ }
 {
+    if p.kind == KNOWN {
+        return Where::Known(p.at);
+    }
+    if p.kind == FRESH {
+        return Where::Fresh;
+    }
+    Where::Cell(p.at as usize)
+}
+
+// The place of a bucket that is known.
+pub fn known(b: u64) -> Place
+    ensures { λ r. ⌜ r ≡ placeOf (Known b) ⌝ }
+{
+    Place { kind: KNOWN, at: b }
+}
+
+// The place of a new page.
+pub fn fresh() -> Place
+    ensures { λ r. ⌜ r ≡ placeOf FreshPage ⌝ }
+{
+    Place { kind: FRESH, at: 0 }
+}
+
+// The place of a bucket that cell i has, or will have.
+pub fn cell(i: usize) -> Place
+    ensures { λ r. ⌜ r ≡ placeOf (Cell i) ⌝ }
+{
+    Place {
+        kind: CELL,
+        at: i as u64,
+    }
+}
+
+// The bucket that is known, or that the cell has.
+fn name_of(p: Place, cells: &[u64]) -> Name
+    ensures { λ r. ⌜ nameSaid r ≡ namedBy (whereOf p) (now (cells .entry)) ⌝ }
+{
+    let place = where_of(p);
     match place {
         Where::Known(b) => Name::Bucket(b),
         Where::Fresh => Name::None,
@@ -274,9 +328,10 @@ fn write_tag(tags: &mut [u8], marks: &mut [u8], b: usize, tag: u8)
 }
 
 // The cell that was to have the bucket has it.
-fn set_cell(cells: &mut [u64], place: Where, b: u64)
-    ensures { λ _. ⌜ now (cells .exit) ≡ cellsAt place b (now (cells .entry)) ⌝ }
+fn set_cell(cells: &mut [u64], p: Place, b: u64)
+    ensures { λ _. ⌜ now (cells .exit) ≡ cellsAt (whereOf p) b (now (cells .entry)) ⌝ }
 {
+    let place = where_of(p);
     if let Where::Cell(i) = place {
         if i < cells.len() {
             cells[i] = b;

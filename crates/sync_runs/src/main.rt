@@ -5,10 +5,10 @@
 use answers::Refusal;
 use page_diff::Diff;
 use sync::Change;
+use sync::Place;
 use sync::SyncState;
 use sync::Synced;
 use sync::Taken;
-use sync::Where;
 use wal::Writer;
 
 const N: usize = 4;
@@ -160,7 +160,7 @@ fn say_memory(tags: &[u8], marks: &[u8], cells: &[u64], log: &[u8]) {
 }
 
 // A change of slot 0, by a diff with this high word.
-fn change(hash: u64, high: u64, place: Where) -> Change {
+fn change(hash: u64, high: u64, place: Place) -> Change {
     let words = [1, high];
     let diff = Diff { words };
     Change {
@@ -172,7 +172,7 @@ fn change(hash: u64, high: u64, place: Where) -> Change {
 }
 
 fn fresh() -> Change {
-    change(0, PLAIN, Where::Fresh)
+    change(0, PLAIN, sync::fresh())
 }
 
 // A sync of the first `count` of two changes, and what it left.
@@ -363,14 +363,8 @@ fn short_log() {
 
 // ---- one change
 fn cells_refused() {
-    one(
-        b"cell 2 of 2",
-        0,
-        0,
-        UNSET,
-        change(0, PLAIN, Where::Cell(2)),
-    );
-    one(b"cell holds 4", 0, 0, 4, change(0, PLAIN, Where::Cell(0)));
+    one(b"cell 2 of 2", 0, 0, UNSET, change(0, PLAIN, sync::cell(2)));
+    one(b"cell holds 4", 0, 0, 4, change(0, PLAIN, sync::cell(0)));
 }
 
 fn buckets_refused() {
@@ -379,55 +373,55 @@ fn buckets_refused() {
         MINE,
         0,
         UNSET,
-        change(0, PLAIN, Where::Known(UNSET)),
+        change(0, PLAIN, sync::known(UNSET)),
     );
     one(
         b"known with another tag",
         OTHER,
         0,
         UNSET,
-        change(0, PLAIN, Where::Known(0)),
+        change(0, PLAIN, sync::known(0)),
     );
     one(
         b"clear without a bucket",
         MINE,
         0,
         UNSET,
-        change(0, CLEARED, Where::Fresh),
+        change(0, CLEARED, sync::fresh()),
     );
     one(
         b"clear by an unset cell",
         MINE,
         0,
         UNSET,
-        change(0, CLEARED, Where::Cell(0)),
+        change(0, CLEARED, sync::cell(0)),
     );
 }
 
 fn diffs_refused() {
-    one(b"bit 126", 0, 0, UNSET, change(0, BIT_126, Where::Fresh));
+    one(b"bit 126", 0, 0, UNSET, change(0, BIT_126, sync::fresh()));
     one(
         b"bits 126 and 127",
         MINE,
         0,
         UNSET,
-        change(0, BIT_126 + CLEARED, Where::Known(0)),
+        change(0, BIT_126 + CLEARED, sync::known(0)),
     );
 }
 
 // ---- two changes
 fn one_cell() {
-    let c = change(0, PLAIN, Where::Cell(0));
+    let c = change(0, PLAIN, sync::cell(0));
     two(b"one unset cell twice", OTHER, 0, UNSET, c, c);
 }
 
 fn taken_again() {
-    let c = change(0, CLEARED, Where::Known(0));
+    let c = change(0, CLEARED, sync::known(0));
     two(b"cleared and taken again", OTHER, 0, UNSET, c, fresh());
 }
 
 fn second_refused() {
-    let c = change(0, PLAIN, Where::Known(1));
+    let c = change(0, PLAIN, sync::known(1));
     two(b"second refused", 0, OTHER, UNSET, fresh(), c);
 }
 
@@ -460,7 +454,7 @@ fn steps() {
     stepped(
         b"step, occupied 0",
         Writer::Open(5),
-        change(0, CLEARED, Where::Known(1)),
+        change(0, CLEARED, sync::known(1)),
     );
 }
 

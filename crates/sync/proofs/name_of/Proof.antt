@@ -10,6 +10,9 @@ use borrow.Author.Needs.{needs}
 use Rattle.sync.proofs.name_of.Statement.{statement}
 use Rattle.sync.proofs.name_of.Tie as tie
 
+where-of-requires : tie.Need-where-of-requires
+where-of-requires c κs = search needs
+
 enum-known-place : tie.Need-enum-known-place
 enum-known-place c = search needs
 
@@ -26,24 +29,25 @@ shared-slice-read-b : tie.Need-shared-slice-read-b
 shared-slice-read-b c = search needs
 
 returns : tie.Need-returns
-returns c = let then1 = c .before .before in let at = then1 .before .before in let cells = at .before .before .args .cells .now in let i = at .place2 .given .0 .0 in sym (ap (λ (w : Where). namedBy w cells) (at .place2 .given .1) ∙ ap (λ (t : Bool). cond t (given (cellNames (getD cells i 0))) (refused 2)) (lt-ltb i (length cells) (then1 .if1 .taken)) ∙ ap (λ (t : Bool). given (cond t none (bucket (getD cells i 0)))) (eq-eqb _ _ (c .if2 .taken)))
+returns c = let then1 = c .before .before in let at = then1 .before .before in let called = at .before .before in let cells = called .before .before .args .cells .now in let i = at .place2 .given .0 .0 in sym (ap (λ (w : Where). namedBy w cells) (sym (called .where-of .ensures) ∙ at .place2 .given .1) ∙ ap (λ (t : Bool). cond t (given (cellNames (getD cells i 0))) (refused 2)) (lt-ltb i (length cells) (then1 .if1 .taken)) ∙ ap (λ (t : Bool). given (cond t none (bucket (getD cells i 0)))) (eq-eqb _ _ (c .if2 .taken)))
 
 returns-2 : tie.Need-returns-2
-returns-2 c = let then1 = c .before .before in let at = then1 .before .before in let cells = at .before .before .args .cells .now in let i = at .place2 .given .0 .0 in sym (ap (λ (w : Where). namedBy w cells) (at .place2 .given .1) ∙ ap (λ (t : Bool). cond t (given (cellNames (getD cells i 0))) (refused 2)) (lt-ltb i (length cells) (then1 .if1 .taken)) ∙ ap (λ (t : Bool). given (cond t none (bucket (getD cells i 0)))) (ne-eqb _ _ (c .if2 .left)))
+returns-2 c = let then1 = c .before .before in let at = then1 .before .before in let called = at .before .before in let cells = called .before .before .args .cells .now in let i = at .place2 .given .0 .0 in sym (ap (λ (w : Where). namedBy w cells) (sym (called .where-of .ensures) ∙ at .place2 .given .1) ∙ ap (λ (t : Bool). cond t (given (cellNames (getD cells i 0))) (refused 2)) (lt-ltb i (length cells) (then1 .if1 .taken)) ∙ ap (λ (t : Bool). given (cond t none (bucket (getD cells i 0)))) (ne-eqb _ _ (c .if2 .left)))
 
 returns-3 : tie.Need-returns-3
-returns-3 c = sym (ap (λ (w : Where). namedBy w (c .before .before .before .args .cells .now)) (c .before .place .given .1))
+returns-3 c = let called = c .before .before .before in sym (ap (λ (w : Where). namedBy w (called .before .before .args .cells .now)) (sym (called .where-of .ensures) ∙ c .before .place .given .1))
 
 returns-4 : tie.Need-returns-4
-returns-4 c = search needs
+returns-4 c = let called = c .before .before in sym (ap (λ (w : Where). namedBy w (called .before .before .args .cells .now)) (sym (called .where-of .ensures) ∙ c .enum-told .given .1))
 
 returns-5 : tie.Need-returns-5
-returns-5 c = let at = c .before .before in let cells = at .before .before .args .cells .now in let i = at .place2 .given .0 .0 in sym (ap (λ (w : Where). namedBy w cells) (at .place2 .given .1) ∙ ap (λ (t : Bool). cond t (given (cellNames (getD cells i 0))) (refused 2)) (le-ltb i (length cells) (c .if1 .left)))
+returns-5 c = let at = c .before .before in let called = at .before .before in let cells = called .before .before .args .cells .now in let i = at .place2 .given .0 .0 in sym (ap (λ (w : Where). namedBy w cells) (sym (called .where-of .ensures) ∙ at .place2 .given .1) ∙ ap (λ (t : Bool). cond t (given (cellNames (getD cells i 0))) (refused 2)) (le-ltb i (length cells) (c .if1 .left)))
 
 pub name-of-spec : {M : Type 1} → statement M
 name-of-spec =
     tie.close
     (tie.spec
+    where-of-requires
     enum-known-place
     enum-told
     enum-known-place-2

@@ -11,14 +11,14 @@ use Rattle.sync.proofs.plan.Tie as tie
 
 -- past bit 126 the plan goes by what the place names
 by-name : (c : tie.After-name-of) (a : Answer Named) → a ≡ nameSaid (c .name-of .result)
-    → let args = c .before .before .before .before .before .before .before .args in
-    doesOf (args .n) (args .tags .now) (args .cells .now) (args .c) ≡ byNamed (c .before .cleared .result) (args .n) (args .tags .now) (args .c .hash) a
+    → let args = c .before .before .before .before .before .before .before .before .args in
+    doesOf (args .n) (args .tags .now) (args .cells .now) (args .c) ≡ byNamed (c .before .before .cleared .result) (args .n) (args .tags .now) (args .c .hash) a
 by-name c a e =
-    let asked = c .before .before .before in
+    let asked = c .before .before .before .before in
     let args = asked .before .before .before .before .args in
-    plan-by (args .n) (args .tags .now) (args .cells .now) (args .c) (c .before .cleared .result) a
-    (spare-fails (args .c .diff .words) (asked .changed .result) (asked .changed .ensures) (c .before .before .match .keys2))
-    (c .before .cleared .ensures) (e ∙ c .name-of .ensures)
+    plan-by (args .n) (args .tags .now) (args .cells .now) (args .c) (c .before .before .cleared .result) a
+    (spare-fails (args .c .diff .words) (asked .changed .result) (asked .changed .ensures) (c .before .before .before .match .keys2))
+    (c .before .before .cleared .ensures) (e ∙ c .name-of .ensures)
 
 changed-requires : tie.Need-changed-requires
 changed-requires c κs = search needs

@@ -8,6 +8,9 @@ use borrow.Author.Needs.{needs}
 use Rattle.sync.proofs.set_cell.Statement.{statement}
 use Rattle.sync.proofs.set_cell.Tie as tie
 
+where-of-requires : tie.Need-where-of-requires
+where-of-requires c κs = search needs
+
 enum-known-place : tie.Need-enum-known-place
 enum-known-place c = search needs
 
@@ -21,15 +24,15 @@ same-length : tie.Need-same-length
 same-length c = search needs
 
 returns : tie.Need-returns
-returns c = let at = c .before .before in let args = at .before .before .args in sym (ap (λ (w : Where). cellsAt w (args .b) (args .cells .now)) (at .place .given .1))
+returns c = let at = c .before .before in let called = at .before .before in let args = called .before .before .args in sym (ap (λ (w : Where). cellsAt w (args .b) (args .cells .now)) (sym (called .where-of .ensures) ∙ at .place .given .1))
 
 returns-2 : tie.Need-returns-2
-returns-2 c = let at = c .before .before in let args = at .before .before .args in sym (ap (λ (w : Where). cellsAt w (args .b) (args .cells .now)) (at .place .given .1) ∙ set-out (args .cells .now) (at .place .given .0 .0) (args .b) (c .if1 .left))
+returns-2 c = let at = c .before .before in let called = at .before .before in let args = called .before .before .args in sym (ap (λ (w : Where). cellsAt w (args .b) (args .cells .now)) (sym (called .where-of .ensures) ∙ at .place .given .1) ∙ set-out (args .cells .now) (at .place .given .0 .0) (args .b) (c .if1 .left))
 
 returns-3 : tie.Need-returns-3
-returns-3 c = no-cell (c .before .args .place) (c .before .args .b) (c .before .args .cells .now) (c .match .keys2)
+returns-3 c = let args = c .before .before .before .args in no-cell (c .before .where-of .result) (args .b) (args .cells .now) (c .match .keys2) ∙ ap (λ (w : Where). cellsAt w (args .b) (args .cells .now)) (c .before .where-of .ensures)
 
 pub set-cell-spec : {M : Type 1} → statement M
 set-cell-spec =
     tie.close
-    (tie.spec enum-known-place mul-cells slice-write-cells same-length returns returns-2 returns-3)
+    (tie.spec where-of-requires enum-known-place mul-cells slice-write-cells same-length returns returns-2 returns-3)

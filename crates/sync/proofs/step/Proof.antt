@@ -152,7 +152,7 @@ write-clear-requires c κs = search needs
 
 -- src/lib.rt:316:17
 write-tag-requires : tie.Need-write-tag-requires
-write-tag-requires c κs = let a = c .before .before .before .before .before .before .before in let l = a .before .before .before .before in let o = at l in let b = a .ahead2 .given .0 .0 in let r = rests l (outlook.Clears b) (a .ahead2 .given .1) in within l b (r .0)
+write-tag-requires c κs = let a = c .before .before .before .before .before .before .before in let l = a .before .before .before .before .before in let o = at l in let b = a .ahead2 .given .0 .0 in let r = rests l (outlook.Clears b) (a .ahead2 .given .1) in within l b (r .0)
 
 -- src/lib.rt:318:41
 one-less-requires : tie.Need-one-less-requires
@@ -160,7 +160,7 @@ one-less-requires c κs = search needs
 
 -- src/lib.rt:318:17
 taken-step-requires : tie.Need-taken-step-requires
-taken-step-requires c κs = let a = c .before .before .before .before .before .before .before .before .before .before .before .before .before in let l = a .before .before .before .before in let o = at l in let b = a .ahead2 .given .0 .0 in let r = rests l (outlook.Clears b) (a .ahead2 .given .1) in (most l, r .0)
+taken-step-requires c κs = let a = c .before .before .before .before .before .before .before .before .before .before .before .before .before in let l = a .before .before .before .before .before in let o = at l in let b = a .ahead2 .given .0 .0 in let r = rests l (outlook.Clears b) (a .ahead2 .given .1) in (most l, r .0)
 
 -- src/lib.rt:320:30
 enum-known-ahead-3 : tie.Need-enum-known-ahead-3
@@ -172,7 +172,7 @@ write-page-update-requires c κs = search needs
 
 -- src/lib.rt:323:17
 taken-step-requires-2 : tie.Need-taken-step-requires-2
-taken-step-requires-2 c κs = let a = c .before .before .before .before .before in let l = a .before .before .before .before in let o = at l in let b = a .ahead3 .given .0 .0 in let r = rests l (outlook.Updates b) (a .ahead3 .given .1) in (most l, r .0)
+taken-step-requires-2 c κs = let a = c .before .before .before .before .before in let l = a .before .before .before .before .before in let o = at l in let b = a .ahead3 .given .0 .0 in let r = rests l (outlook.Updates b) (a .ahead3 .given .1) in (most l, r .0)
 
 -- src/lib.rt:325:28
 enum-known-ahead-4 : tie.Need-enum-known-ahead-4
@@ -188,7 +188,7 @@ full-entry-requires c κs = search needs
 
 -- src/lib.rt:327:17
 write-tag-requires-2 : tie.Need-write-tag-requires-2
-write-tag-requires-2 c κs = let a = c .before .before .before .before .before .before .before .before in let l = a .before .before .before .before in let o = at l in let b = a .ahead4 .given .0 .0 in let r = rests l (outlook.Takes b) (a .ahead4 .given .1) in within l b (r .0)
+write-tag-requires-2 c κs = let a = c .before .before .before .before .before .before .before .before in let l = a .before .before .before .before .before in let o = at l in let b = a .ahead4 .given .0 .0 in let r = rests l (outlook.Takes b) (a .ahead4 .given .1) in within l b (r .0)
 
 -- src/lib.rt:328:17
 set-cell-requires : tie.Need-set-cell-requires
@@ -200,7 +200,7 @@ one-more-requires c κs = search needs
 
 -- src/lib.rt:330:17
 taken-step-requires-3 : tie.Need-taken-step-requires-3
-taken-step-requires-3 c κs = let a = c .before .before .before .before .before .before .before .before .before .before .before .before .before .before .before .before .before .before in let l = a .before .before .before .before in let o = at l in let b = a .ahead4 .given .0 .0 in let r = rests l (outlook.Takes b) (a .ahead4 .given .1) in (most l, r .0)
+taken-step-requires-3 c κs = let a = c .before .before .before .before .before .before .before .before .before .before .before .before .before .before .before .before .before .before in let l = a .before .before .before .before .before in let o = at l in let b = a .ahead4 .given .0 .0 in let r = rests l (outlook.Takes b) (a .ahead4 .given .1) in (most l, r .0)
 
 -- src/lib.rt:334:9
 refused-step-requires-5 : tie.Need-refused-step-requires-5
@@ -220,7 +220,7 @@ same-length-3 c = search needs
 
 -- src/lib.rt:285:1
 returns-4 : tie.Need-returns-4
-returns-4 c = let a = c .before .before in let l = a .before .before .before .before in let o = at l in let why = a .ahead .given .0 .0 in refused-left (st o) (tags o) (marks o) (cells o) (log o) (page o) (ch o) (numberOf why) (takenSaid (c .refused-step4 .result .taken)) (c .refused-step4 .result .state) (seen l (outlook.Refused why) (a .ahead .given .1)) (c .refused-step4 .ensures .0) (c .refused-step4 .ensures .1)
+returns-4 c = let a = c .before .before in let l = a .before .before .before .before .before in let o = at l in let why = a .ahead .given .0 .0 in refused-left (st o) (tags o) (marks o) (cells o) (log o) (page o) (ch o) (numberOf why) (takenSaid (c .refused-step4 .result .taken)) (c .refused-step4 .result .state) (seen l (outlook.Refused why) (a .ahead .given .1)) (c .refused-step4 .ensures .0) (c .refused-step4 .ensures .1)
 
 -- src/lib.rt:285:1
 same-length-4 : tie.Need-same-length-4
@@ -240,7 +240,7 @@ same-length-7 c = search needs
 
 -- src/lib.rt:285:1
 returns-5 : tie.Need-returns-5
-returns-5 c = let a = c .before .before .before .before .before .before .before .before .before .before .before .before .before .before in let l = a .before .before .before .before in let o = at l in let b = a .ahead2 .given .0 .0 in let r = rests l (outlook.Clears b) (a .ahead2 .given .1) in let w = st o .writer in let k = clear-taken w (log o) (opened l) (r .1) in let wr = c .before .before .before .before .before .before .before .before .before .before .before in let tg = c .before .before .before .before .before .before in given-left (st o) (tags o) (marks o) (cells o) (log o) (page o) (ch o) (cleared b) (takenSaid (c .taken-step .result .taken)) (c .taken-step .result .state) (tg .write-tag .last .0) (tg .write-tag .last .1 .0) (cells o) (wr .write-clear .last .0) (seen l (outlook.Clears b) (a .ahead2 .given .1)) (c .taken-step .ensures .0) (c .taken-step .ensures .1 ∙ ap₂ (stateOf (st o .n)) (wr .write-clear .ensures .1 .0 ∙ clear-state w (log o) k) (c .before .one-less .ensures)) (tg .write-tag .ensures .0) (tg .write-tag .ensures .1) refl (wr .write-clear .ensures .1 .1 ∙ clear-bytes w (log o) k b)
+returns-5 c = let a = c .before .before .before .before .before .before .before .before .before .before .before .before .before .before in let l = a .before .before .before .before .before in let o = at l in let b = a .ahead2 .given .0 .0 in let r = rests l (outlook.Clears b) (a .ahead2 .given .1) in let w = st o .writer in let k = clear-taken w (log o) (opened l) (r .1) in let wr = c .before .before .before .before .before .before .before .before .before .before .before in let tg = c .before .before .before .before .before .before in given-left (st o) (tags o) (marks o) (cells o) (log o) (page o) (ch o) (cleared b) (takenSaid (c .taken-step .result .taken)) (c .taken-step .result .state) (tg .write-tag .last .0) (tg .write-tag .last .1 .0) (cells o) (wr .write-clear .last .0) (seen l (outlook.Clears b) (a .ahead2 .given .1)) (c .taken-step .ensures .0) (c .taken-step .ensures .1 ∙ ap₂ (stateOf (st o .n)) (wr .write-clear .ensures .1 .0 ∙ clear-state w (log o) k) (c .before .one-less .ensures)) (tg .write-tag .ensures .0) (tg .write-tag .ensures .1) refl (wr .write-clear .ensures .1 .1 ∙ clear-bytes w (log o) k b)
 
 -- src/lib.rt:285:1
 same-length-8 : tie.Need-same-length-8
@@ -256,7 +256,7 @@ same-length-10 c = search needs
 
 -- src/lib.rt:285:1
 returns-6 : tie.Need-returns-6
-returns-6 c = let a = c .before .before .before .before .before .before in let l = a .before .before .before .before in let o = at l in let b = a .ahead3 .given .0 .0 in let r = rests l (outlook.Updates b) (a .ahead3 .given .1) in let w = st o .writer in let ws = ch o .diff .words in let k = page-taken w (log o) ws (page o) (opened l) (told l .before .if2 .left) (r .2) (r .1) in let wr = c .before .before .before in given-left (st o) (tags o) (marks o) (cells o) (log o) (page o) (ch o) (updated b) (takenSaid (c .taken-step2 .result .taken)) (c .taken-step2 .result .state) (tags o) (marks o) (cells o) (wr .write-page-update .last .0) (seen l (outlook.Updates b) (a .ahead3 .given .1)) (c .taken-step2 .ensures .0) (c .taken-step2 .ensures .1 ∙ ap (λ (v : Writer). stateOf (st o .n) v (st o .occupied)) (wr .write-page-update .ensures .1 .0 ∙ page-state w (log o) ws (page o) k)) refl refl refl (wr .write-page-update .ensures .1 .1 ∙ page-bytes w (log o) ws (page o) k (ch o .id) b)
+returns-6 c = let a = c .before .before .before .before .before .before in let l = a .before .before .before .before .before in let o = at l in let b = a .ahead3 .given .0 .0 in let r = rests l (outlook.Updates b) (a .ahead3 .given .1) in let w = st o .writer in let ws = ch o .diff .words in let k = page-taken w (log o) ws (page o) (opened l) (told l .before .if2 .left) (r .2) (r .1) in let wr = c .before .before .before in given-left (st o) (tags o) (marks o) (cells o) (log o) (page o) (ch o) (updated b) (takenSaid (c .taken-step2 .result .taken)) (c .taken-step2 .result .state) (tags o) (marks o) (cells o) (wr .write-page-update .last .0) (seen l (outlook.Updates b) (a .ahead3 .given .1)) (c .taken-step2 .ensures .0) (c .taken-step2 .ensures .1 ∙ ap (λ (v : Writer). stateOf (st o .n) v (st o .occupied)) (wr .write-page-update .ensures .1 .0 ∙ page-state w (log o) ws (page o) k)) refl refl refl (wr .write-page-update .ensures .1 .1 ∙ page-bytes w (log o) ws (page o) k (ch o .id) b)
 
 -- src/lib.rt:285:1
 same-length-11 : tie.Need-same-length-11
@@ -276,7 +276,7 @@ same-length-14 c = search needs
 
 -- src/lib.rt:285:1
 returns-7 : tie.Need-returns-7
-returns-7 c = let a = c .before .before .before .before .before .before .before .before .before .before .before .before .before .before .before .before .before .before .before in let l = a .before .before .before .before in let o = at l in let b = a .ahead4 .given .0 .0 in let r = rests l (outlook.Takes b) (a .ahead4 .given .1) in let w = st o .writer in let ws = ch o .diff .words in let k = page-taken w (log o) ws (page o) (opened l) (told l .before .if2 .left) (r .2) (r .1) in let wr = c .before .before .before .before .before .before .before .before .before .before .before .before .before .before .before .before in let tg = c .before .before .before .before .before .before .before .before .before .before in let cl = c .before .before .before .before in given-left (st o) (tags o) (marks o) (cells o) (log o) (page o) (ch o) (allocated b) (takenSaid (c .taken-step3 .result .taken)) (c .taken-step3 .result .state) (tg .write-tag2 .last .0) (tg .write-tag2 .last .1 .0) (cl .set-cell .last .0) (wr .write-page-update2 .last .0) (seen l (outlook.Takes b) (a .ahead4 .given .1)) (c .taken-step3 .ensures .0) (c .taken-step3 .ensures .1 ∙ ap₂ (stateOf (st o .n)) (wr .write-page-update2 .ensures .1 .0 ∙ page-state w (log o) ws (page o) k) (c .before .one-more .ensures)) (tg .write-tag2 .ensures .0 ∙ ap (set (tags o) b) (tg .before .full-entry .ensures)) (tg .write-tag2 .ensures .1) (cl .set-cell .ensures) (wr .write-page-update2 .ensures .1 .1 ∙ page-bytes w (log o) ws (page o) k (ch o .id) b)
+returns-7 c = let a = c .before .before .before .before .before .before .before .before .before .before .before .before .before .before .before .before .before .before .before in let l = a .before .before .before .before .before in let o = at l in let b = a .ahead4 .given .0 .0 in let r = rests l (outlook.Takes b) (a .ahead4 .given .1) in let w = st o .writer in let ws = ch o .diff .words in let k = page-taken w (log o) ws (page o) (opened l) (told l .before .if2 .left) (r .2) (r .1) in let wr = c .before .before .before .before .before .before .before .before .before .before .before .before .before .before .before .before in let tg = c .before .before .before .before .before .before .before .before .before .before in let cl = c .before .before .before .before in given-left (st o) (tags o) (marks o) (cells o) (log o) (page o) (ch o) (allocated b) (takenSaid (c .taken-step3 .result .taken)) (c .taken-step3 .result .state) (tg .write-tag2 .last .0) (tg .write-tag2 .last .1 .0) (cl .set-cell .last .0) (wr .write-page-update2 .last .0) (seen l (outlook.Takes b) (a .ahead4 .given .1)) (c .taken-step3 .ensures .0) (c .taken-step3 .ensures .1 ∙ ap₂ (stateOf (st o .n)) (wr .write-page-update2 .ensures .1 .0 ∙ page-state w (log o) ws (page o) k) (c .before .one-more .ensures)) (tg .write-tag2 .ensures .0 ∙ ap (set (tags o) b) (tg .before .full-entry .ensures)) (tg .write-tag2 .ensures .1) (cl .set-cell .ensures) (wr .write-page-update2 .ensures .1 .1 ∙ page-bytes w (log o) ws (page o) k (ch o .id) b)
 
 -- src/lib.rt:285:1
 returns-8 : tie.Need-returns-8
