@@ -1,0 +1,27 @@
+-- The call of the writer that the state says, in words. Assumes nothing.
+use mathlib.Core.Path.{_≡_, sym, ap, _∙_}
+use Rattle.answers.specs.Answers.{Answer}
+use Rattle.wal.specs.Writer.{beginAnswer, beginWriter}
+use Rattle.bitbox.specs.Words.{writtenWords}
+use borrow.Author.Needs.{needs}
+use Rattle.bitbox.proofs.bitbox_begin.Statement.{statement}
+use Rattle.bitbox.proofs.bitbox_begin.Tie as tie
+
+writer-of-requires : tie.Need-writer-of-requires
+writer-of-requires c κs = search needs
+
+begin-requires : tie.Need-begin-requires
+begin-requires c κs = search needs
+
+of-written-requires : tie.Need-of-written-requires
+of-written-requires c κs = search needs
+
+same-length : tie.Need-same-length
+same-length c = search needs
+
+returns : tie.Need-returns
+returns c = let args = c .before .before .before .before .before .before .before .args in let log = args .log .now in (c .of-written .ensures ∙ ap (λ (a : Answer (Unit {0})). writtenWords a (c .before .before .before .begin .result .writer)) (c .before .before .before .begin .ensures .0) ∙ ap (writtenWords (beginAnswer log)) (c .before .before .before .begin .ensures .1 .0 ∙ ap (beginWriter log) (c .before .before .before .before .writer-of .ensures)), c .before .before .before .begin .ensures .1 .1)
+
+pub bitbox-begin-spec : {M : Type 1} → statement M
+bitbox-begin-spec =
+    tie.close (tie.spec writer-of-requires begin-requires of-written-requires same-length returns)

@@ -1,0 +1,31 @@
+-- The call of the writer that the state says, in words. Assumes nothing.
+use mathlib.Core.Path.{_≡_, sym, ap, _∙_}
+use Prim.Native.Nat.{ℕ}
+use Rattle.wal.specs.declared.Writer.{Writer}
+use Rattle.answers.specs.Answers.{Answer}
+use Rattle.wal.specs.Writer.{finishAnswer, finishWriter, finishLog}
+use mathlib.Core.Bool.{Bool}
+use Rattle.bitbox.specs.Words.{finishedWords}
+use borrow.Author.Needs.{needs}
+use Rattle.bitbox.proofs.bitbox_finish.Statement.{statement}
+use Rattle.bitbox.proofs.bitbox_finish.Tie as tie
+
+writer-of-requires : tie.Need-writer-of-requires
+writer-of-requires c κs = search needs
+
+finish-requires : tie.Need-finish-requires
+finish-requires c κs = search needs
+
+of-finished-requires : tie.Need-of-finished-requires
+of-finished-requires c κs = search needs
+
+same-length : tie.Need-same-length
+same-length c = search needs
+
+returns : tie.Need-returns
+returns c = let args = c .before .before .before .before .before .before .before .args in let log = args .log .now in (c .of-finished .ensures ∙ ap (λ (a : Answer ℕ). finishedWords a (c .before .before .before .finish .result .writer)) (c .before .before .before .finish .ensures .0) ∙ ap (finishedWords (finishAnswer log (c .before .before .before .before .writer-of .result))) (c .before .before .before .finish .ensures .1 .0) ∙ ap (λ (w : Writer). finishedWords (finishAnswer log w) (finishWriter log w)) (c .before .before .before .before .writer-of .ensures), c .before .before .before .finish .ensures .1 .1 ∙ ap (λ (w : Writer). finishLog log w) (c .before .before .before .before .writer-of .ensures))
+
+pub bitbox-finish-spec : {M : Type 1} → statement M
+bitbox-finish-spec =
+    tie.close
+    (tie.spec writer-of-requires finish-requires of-finished-requires same-length returns)

@@ -1,0 +1,29 @@
+-- The call, in words. Assumes nothing.
+use mathlib.Core.Path.{_≡_, sym, ap, _∙_}
+use mathlib.Core.List.{List}
+use Prim.Native.Nat.{ℕ}
+use Rattle.page_diff.specs.Pack.{unpackAnswer, unpackedPage}
+use Rattle.bitbox.specs.Words.{outcomeWords}
+use borrow.Author.Needs.{needs}
+use Rattle.bitbox.proofs.bitbox_unpack.Statement.{statement}
+use Rattle.bitbox.proofs.bitbox_unpack.Tie as tie
+
+diff-requires : tie.Need-diff-requires
+diff-requires c κs = search needs
+
+unpack-changed-nodes-requires : tie.Need-unpack-changed-nodes-requires
+unpack-changed-nodes-requires c κs = search needs
+
+of-outcome-requires : tie.Need-of-outcome-requires
+of-outcome-requires c κs = search needs
+
+same-length : tie.Need-same-length
+same-length c = search needs
+
+returns : tie.Need-returns
+returns c = let page = c .before .before .before .before .before .before .before .args .page .now in let nodes = c .before .before .before .before .before .before .before .args .nodes .now in let count = c .before .before .before .before .before .before .before .args .count in (c .of-outcome .ensures ∙ ap outcomeWords (c .before .before .before .unpack-changed-nodes .ensures .0 ∙ ap (λ (ws : List ℕ). unpackAnswer ws count page) (c .before .before .before .before .before .diff .ensures)), c .before .before .before .unpack-changed-nodes .ensures .1 ∙ ap (λ (ws : List ℕ). unpackedPage ws nodes count page) (c .before .before .before .before .before .diff .ensures))
+
+pub bitbox-unpack-spec : {M : Type 1} → statement M
+bitbox-unpack-spec =
+    tie.close
+    (tie.spec diff-requires unpack-changed-nodes-requires of-outcome-requires same-length returns)

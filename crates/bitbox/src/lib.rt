@@ -1,0 +1,982 @@
+// What other languages link: every operation of document 01 as an exported function, thin over the
+// proved crates. A slice is a pointer and then its length, an array a pointer; a diff is its two words,
+// low word first. An answer is a number or a small struct that begins with the refusal's number, 0 for
+// none. No call needs its caller to check anything but that the pointers and lengths are true.
+ghost use mathlib.Core.Path.{_≡_};
+ghost use mathlib.Core.Bool.{not};
+ghost use Prim.Native.Nat.{_/_};
+ghost use lib.Dec.{eqb};
+ghost use Rattle.answers.specs.Refusals.{numberOf};
+ghost use Rattle.answers.specs.Answers.{given, outcomeSaid, numberSaid, truthSaid};
+ghost use Rattle.ht_file.specs.Places.{tagPages, imageLength, ifCount, pageOf};
+ghost use Rattle.meta_map.specs.Tags.{empty, tombstone, full, kindOf, isKind, fullTag, countOf as fullCount, paddingEmpty, ifTags, writeAnswer, tagWritten};
+ghost use Rattle.page_diff.specs.Diff.{marked, countOf, setAnswer, setWords, askAnswer, clearedWords, joined, bytesOfWords, readAnswer, readWords};
+ghost use Rattle.page_diff.specs.Pack.{packAnswer, packedOf, unpackAnswer, unpackedPage};
+ghost use Rattle.probe.specs.Path.{probeAnswer, lookupAnswer, hitLimit, allocateAnswer, allocatedTags, probedSaid, foundSaid, allocatedSaid};
+ghost use Rattle.wal.specs.Reader.{startOf, nextAt};
+ghost use Rattle.wal.specs.Writer.{beginAnswer, beginWriter, beginLog, clearAnswer, updateAnswer, finishAnswer, finishWriter, finishLog};
+ghost use Rattle.wal_read.specs.Entry.{whatSaid};
+ghost use Rattle.wal_write.specs.Calls.{clearWriter, clearLog, updateWriter, updateLog};
+ghost use Rattle.sync.specs.Change.{memOf, takenSaid, pageNumber, effectOf, memBy, stateBy};
+ghost use Rattle.sync.specs.Sync.{syncSays, syncWriter, syncMem, syncedSaid};
+ghost use Rattle.recover.specs.Replay.{replayAnswer, replayImage, stepAnswer, stepImage, recoveredSaid, steppedSaid};
+ghost use Rattle.rehash.specs.Marker.{writeAnswer as writeMarkerAnswer, writtenMarker, readAnswer as readMarkerAnswer, markerSaid};
+ghost use Rattle.rehash.specs.Pending.{pendingAnswer, decisionSaid};
+ghost use Rattle.rehash.specs.Growth.{growthAnswer, growthImage, grownSaid};
+ghost use Rattle.validate.specs.Audit.{auditAnswer, auditedSaid};
+ghost use Rattle.bitbox.specs.Words.{refusalOf, words, outcomeWords, numberWords, truthWords, probeWords, lookupWords, entryRefusal, entryKind, entryBucket, Read, writerOf, writerWords, writtenWords, finishedWords, stateOf, stateWords, stepWords, syncWords, replayWords, wentWords, markerWords, leftWords, growthWords, auditWords, pair};
+use answers::Number;
+use answers::Outcome;
+use answers::Refusal;
+use answers::Truth;
+use page_diff::Diff;
+use page_diff::Packed;
+use sync::Change;
+use wal::Writer;
+
+// ---- answers
+
+// 0, or the refusal's number; and a value, 0 where there is none.
+#[repr(C)]
+pub struct Answer {
+    pub refusal: u64,
+    pub value: u64,
+}
+
+// The same with a diff: of no mark where it is refused to read one, the lent one where to set one.
+#[repr(C)]
+pub struct DiffAnswer {
+    pub refusal: u64,
+    pub diff: Diff,
+}
+
+// The same with packed nodes: none where it is refused.
+#[repr(C)]
+pub struct PackAnswer {
+    pub refusal: u64,
+    pub packed: Packed,
+}
+
+// What probing comes to: 0 empty, 1 tombstone, 2 hit, 3 closed; the bucket and its visit.
+#[repr(C)]
+pub struct Probed {
+    pub refusal: u64,
+    pub kind: u64,
+    pub bucket: u64,
+    pub visit: u64,
+}
+
+// What lookup comes to: 0 found, 1 absent, 2 closed; the bucket.
+#[repr(C)]
+pub struct Found {
+    pub refusal: u64,
+    pub kind: u64,
+    pub bucket: u64,
+}
+
+// An entry of a log: 0 end, 1 clear, 2 update; its bucket; where the next one stands; of an update its id,
+// diff, nodes and elided children.
+#[repr(C)]
+pub struct Entry {
+    pub refusal: u64,
+    pub kind: u64,
+    pub bucket: u64,
+    pub next: u64,
+    pub id: [u8; 32],
+    pub diff: Diff,
+    pub packed: Packed,
+    pub elided: [u8; 8],
+}
+
+// A writer's state: 0 fresh, 1 open at a position, any other finished with a length.
+#[repr(C)]
+pub struct WriterState {
+    pub kind: u64,
+    pub at: u64,
+}
+
+// What a writer's call comes to, and the state after it.
+#[repr(C)]
+pub struct Written {
+    pub refusal: u64,
+    pub length: u64,
+    pub writer: WriterState,
+}
+
+// The state of a sync that is made step by step.
+#[repr(C)]
+pub struct StepState {
+    pub n: u64,
+    pub writer: WriterState,
+    pub occupied: u64,
+}
+
+// What a step of a sync comes to: the bucket, the page's number, the state after it.
+#[repr(C)]
+pub struct StepAnswer {
+    pub refusal: u64,
+    pub bucket: u64,
+    pub page: u64,
+    pub state: StepState,
+}
+
+// What a sync comes to: full buckets and the log's length; or a refusal, at change `change` where
+// `at_change` is 1; and the writer after it.
+#[repr(C)]
+pub struct SyncAnswer {
+    pub refusal: u64,
+    pub at_change: u64,
+    pub change: u64,
+    pub occupied: u64,
+    pub length: u64,
+    pub writer: WriterState,
+}
+
+// What a step of replay comes to: 0 end, 1 cleared, 2 updated; where the next entry stands.
+#[repr(C)]
+pub struct Stepped {
+    pub refusal: u64,
+    pub kind: u64,
+    pub next: u64,
+}
+
+// The counts of a marker.
+#[repr(C)]
+pub struct Marker {
+    pub refusal: u64,
+    pub old: u64,
+    pub new: u64,
+}
+
+// The bytes of a marker: zeros where it is refused.
+#[repr(C)]
+pub struct MarkerBytes {
+    pub refusal: u64,
+    pub bytes: [u8; 16],
+}
+
+// What an audit comes to: buckets, full ones, and their rate.
+#[repr(C)]
+pub struct Audited {
+    pub refusal: u64,
+    pub capacity: u64,
+    pub occupied: u64,
+    pub rate: f64,
+}
+
+// ---- from the proved crates' answers to these
+
+fn refusal_number(why: Refusal) -> u64
+    ensures { λ r. ⌜ r ≡ numberOf why ⌝ }
+{
+    answers::number_of(why) as u64
+}
+
+fn refusal_of(o: Outcome) -> u64
+    ensures { λ r. ⌜ r ≡ refusalOf (outcomeSaid o) ⌝ }
+{
+    match o {
+        Outcome::Done => 0,
+        Outcome::Refused(why) => refusal_number(why),
+    }
+}
+
+fn refused(why: Refusal) -> Answer
+    ensures { λ r. ⌜ r ≡ words (numberOf why) 0 ⌝ }
+{
+    Answer {
+        refusal: refusal_number(why),
+        value: 0,
+    }
+}
+
+fn value(x: u64) -> Answer
+    ensures { λ r. ⌜ r ≡ words 0 x ⌝ }
+{
+    Answer {
+        refusal: 0,
+        value: x,
+    }
+}
+
+fn of_outcome(o: Outcome) -> Answer
+    ensures { λ r. ⌜ r ≡ outcomeWords (outcomeSaid o) ⌝ }
+{
+    match o {
+        Outcome::Done => value(0),
+        Outcome::Refused(why) => refused(why),
+    }
+}
+
+fn of_number(x: Number) -> Answer
+    ensures { λ r. ⌜ r ≡ numberWords (numberSaid x) ⌝ }
+{
+    match x {
+        Number::Is(v) => value(v),
+        Number::Refused(why) => refused(why),
+    }
+}
+
+fn of_truth(t: Truth) -> Answer
+    ensures { λ r. ⌜ r ≡ truthWords (truthSaid t) ⌝ }
+{
+    match t {
+        Truth::Holds => value(1),
+        Truth::Fails => value(0),
+        Truth::Refused(why) => refused(why),
+    }
+}
+
+fn of_probed(p: probe::Probed) -> Probed
+    ensures { λ r. ⌜ r ≡ probeWords (probedSaid p) ⌝ }
+{
+    match p {
+        probe::Probed::Empty { bucket, visit } => Probed {
+            refusal: 0,
+            kind: 0,
+            bucket,
+            visit,
+        },
+        probe::Probed::Tombstone { bucket, visit } => Probed {
+            refusal: 0,
+            kind: 1,
+            bucket,
+            visit,
+        },
+        probe::Probed::PossibleHit { bucket, visit } => Probed {
+            refusal: 0,
+            kind: 2,
+            bucket,
+            visit,
+        },
+        probe::Probed::Closed => Probed {
+            refusal: 0,
+            kind: 3,
+            bucket: 0,
+            visit: 0,
+        },
+        probe::Probed::Refused(why) => Probed {
+            refusal: refusal_number(why),
+            kind: 0,
+            bucket: 0,
+            visit: 0,
+        },
+    }
+}
+
+fn of_found(f: probe::Found) -> Found
+    ensures { λ r. ⌜ r ≡ lookupWords (foundSaid f) ⌝ }
+{
+    match f {
+        probe::Found::At(bucket) => Found {
+            refusal: 0,
+            kind: 0,
+            bucket,
+        },
+        probe::Found::Absent => Found {
+            refusal: 0,
+            kind: 1,
+            bucket: 0,
+        },
+        probe::Found::Closed => Found {
+            refusal: 0,
+            kind: 2,
+            bucket: 0,
+        },
+        probe::Found::Refused(why) => Found {
+            refusal: refusal_number(why),
+            kind: 0,
+            bucket: 0,
+        },
+    }
+}
+
+fn of_allocated(a: probe::Allocated) -> Answer
+    ensures { λ r. ⌜ r ≡ numberWords (allocatedSaid a) ⌝ }
+{
+    match a {
+        probe::Allocated::At(bucket) => value(bucket),
+        probe::Allocated::Refused(why) => refused(why),
+    }
+}
+
+fn writer_of(w: WriterState) -> Writer
+    ensures { λ r. ⌜ r ≡ writerOf w ⌝ }
+{
+    if w.kind == 0 {
+        return Writer::Fresh;
+    }
+    if w.kind == 1 {
+        return Writer::Open(w.at as usize);
+    }
+    Writer::Finished(w.at as usize)
+}
+
+fn of_writer(w: Writer) -> WriterState
+    ensures { λ r. ⌜ r ≡ writerWords w ⌝ }
+{
+    match w {
+        Writer::Fresh => WriterState { kind: 0, at: 0 },
+        Writer::Open(at) => WriterState {
+            kind: 1,
+            at: at as u64,
+        },
+        Writer::Finished(len) => WriterState {
+            kind: 2,
+            at: len as u64,
+        },
+    }
+}
+
+fn of_written(w: wal_write::Written) -> Written
+    ensures { λ r. ⌜ r ≡ writtenWords (outcomeSaid (w .outcome)) (w .writer) ⌝ }
+{
+    let outcome = w.outcome;
+    let writer = w.writer;
+    Written {
+        refusal: refusal_of(outcome),
+        length: 0,
+        writer: of_writer(writer),
+    }
+}
+
+fn of_finished(f: wal_write::FinishedAnswer) -> Written
+    ensures { λ r. ⌜ r ≡ finishedWords (numberSaid (f .answer)) (f .writer) ⌝ }
+{
+    let answer = f.answer;
+    let writer = f.writer;
+    let a = of_number(answer);
+    Written {
+        refusal: a.refusal,
+        length: a.value,
+        writer: of_writer(writer),
+    }
+}
+
+fn of_taken(t: sync::Taken, st: StepState) -> StepAnswer
+    ensures { λ r. ⌜ r ≡ stepWords (takenSaid t) st ⌝ }
+{
+    match t {
+        sync::Taken::At { bucket, page } => StepAnswer {
+            refusal: 0,
+            bucket,
+            page,
+            state: st,
+        },
+        sync::Taken::Refused(why) => StepAnswer {
+            refusal: refusal_number(why),
+            bucket: 0,
+            page: 0,
+            state: st,
+        },
+    }
+}
+
+fn of_synced(s: sync::Synced, writer: WriterState) -> SyncAnswer
+    ensures { λ r. ⌜ r ≡ syncWords (syncedSaid s) writer ⌝ }
+{
+    match s {
+        sync::Synced::Done { occupied, length } => SyncAnswer {
+            refusal: 0,
+            at_change: 0,
+            change: 0,
+            occupied,
+            length,
+            writer,
+        },
+        sync::Synced::Refused(why) => SyncAnswer {
+            refusal: refusal_number(why),
+            at_change: 0,
+            change: 0,
+            occupied: 0,
+            length: 0,
+            writer,
+        },
+        sync::Synced::RefusedAt(j, why) => SyncAnswer {
+            refusal: refusal_number(why),
+            at_change: 1,
+            change: j as u64,
+            occupied: 0,
+            length: 0,
+            writer,
+        },
+    }
+}
+
+fn of_sync(a: sync::SyncAnswer) -> SyncAnswer
+    ensures { λ r. ⌜ r ≡ syncWords (syncedSaid (a .synced)) (writerWords (a .writer)) ⌝ }
+{
+    let said = a.synced;
+    let writer = a.writer;
+    of_synced(said, of_writer(writer))
+}
+
+fn of_recovered(d: recover::Recovered) -> Answer
+    ensures { λ r. ⌜ r ≡ replayWords (recoveredSaid d) ⌝ }
+{
+    match d {
+        recover::Recovered::Nothing => value(0),
+        recover::Recovered::Stale => value(1),
+        recover::Recovered::Applied => value(2),
+        recover::Recovered::Refused(why) => refused(why),
+    }
+}
+
+fn of_stepped(s: recover::Stepped) -> Stepped
+    ensures { λ r. ⌜ r ≡ wentWords (steppedSaid s) ⌝ }
+{
+    match s {
+        recover::Stepped::End => Stepped {
+            refusal: 0,
+            kind: 0,
+            next: 0,
+        },
+        recover::Stepped::Cleared(next) => Stepped {
+            refusal: 0,
+            kind: 1,
+            next: next as u64,
+        },
+        recover::Stepped::Updated(next) => Stepped {
+            refusal: 0,
+            kind: 2,
+            next: next as u64,
+        },
+        recover::Stepped::Refused(why) => Stepped {
+            refusal: refusal_number(why),
+            kind: 0,
+            next: 0,
+        },
+    }
+}
+
+fn of_marker(m: rehash::MarkerRead) -> Marker
+    ensures { λ r. ⌜ r ≡ markerWords (markerSaid m) ⌝ }
+{
+    match m {
+        rehash::MarkerRead::Is { old, new } => Marker {
+            refusal: 0,
+            old: old as u64,
+            new: new as u64,
+        },
+        rehash::MarkerRead::Refused(why) => Marker {
+            refusal: refusal_number(why),
+            old: 0,
+            new: 0,
+        },
+    }
+}
+
+fn of_decision(d: rehash::Decision) -> Answer
+    ensures { λ r. ⌜ r ≡ leftWords (decisionSaid d) ⌝ }
+{
+    match d {
+        rehash::Decision::Tidy => value(0),
+        rehash::Decision::UpdateMetaThenTidy => value(1),
+        rehash::Decision::Refused(why) => refused(why),
+    }
+}
+
+fn of_grown(g: rehash::Grown) -> Answer
+    ensures { λ r. ⌜ r ≡ growthWords (grownSaid g) ⌝ }
+{
+    match g {
+        rehash::Grown::NothingToDo => value(0),
+        rehash::Grown::Done => value(1),
+        rehash::Grown::Refused(why) => refused(why),
+    }
+}
+
+fn of_audited(a: validate::Audited) -> Audited
+    ensures { λ r. ⌜ r ≡ auditWords (auditedSaid a) ⌝ }
+{
+    match a {
+        validate::Audited::Passed(p) => Audited {
+            refusal: 0,
+            capacity: p.capacity,
+            occupied: p.occupied,
+            rate: p.rate,
+        },
+        validate::Audited::Refused(why) => {
+            let none: u32 = 0;
+            Audited {
+                refusal: refusal_number(why),
+                capacity: 0,
+                occupied: 0,
+                rate: none as f64,
+            }
+        }
+    }
+}
+
+fn diff(lo: u64, hi: u64) -> Diff
+    ensures { λ r. ⌜ r .words ≡ pair lo hi ⌝ }
+{
+    let words = [lo, hi];
+    Diff { words }
+}
+
+// ---- diff
+
+#[no_mangle]
+pub extern "C" fn bitbox_diff_read(bytes: &[u8; 16]) -> DiffAnswer
+    ensures { λ r. ⌜ (r .refusal ≡ refusalOf (readAnswer (now (bytes .entry)))) × (r .diff .words ≡ readWords (now (bytes .entry))) ⌝ }
+{
+    let read = page_diff::from_bytes(*bytes);
+    let outcome = read.outcome;
+    let diff = read.diff;
+    DiffAnswer {
+        refusal: refusal_of(outcome),
+        diff,
+    }
+}
+
+#[no_mangle]
+pub extern "C" fn bitbox_diff_bytes(lo: u64, hi: u64, bytes: &mut [u8; 16])
+    ensures { λ _. ⌜ now (bytes .exit) ≡ bytesOfWords (pair lo hi) ⌝ }
+{
+    *bytes = page_diff::as_bytes(diff(lo, hi));
+}
+
+#[no_mangle]
+pub extern "C" fn bitbox_diff_set(lo: u64, hi: u64, slot: usize) -> DiffAnswer
+    ensures { λ r. ⌜ (r .refusal ≡ refusalOf (setAnswer slot)) × (r .diff .words ≡ setWords (pair lo hi) slot) ⌝ }
+{
+    let set = page_diff::set_changed(diff(lo, hi), slot);
+    let outcome = set.outcome;
+    let diff = set.diff;
+    DiffAnswer {
+        refusal: refusal_of(outcome),
+        diff,
+    }
+}
+
+#[no_mangle]
+pub extern "C" fn bitbox_diff_ask(lo: u64, hi: u64, slot: usize) -> Answer
+    ensures { λ r. ⌜ r ≡ truthWords (askAnswer (pair lo hi) slot) ⌝ }
+{
+    of_truth(page_diff::changed(diff(lo, hi), slot))
+}
+
+#[no_mangle]
+pub extern "C" fn bitbox_diff_set_cleared(lo: u64, hi: u64) -> Diff
+    ensures { λ r. ⌜ r .words ≡ clearedWords (pair lo hi) ⌝ }
+{
+    page_diff::set_cleared(diff(lo, hi))
+}
+
+#[no_mangle]
+pub extern "C" fn bitbox_diff_cleared(lo: u64, hi: u64) -> bool
+    ensures { λ r. ⌜ r ≡ marked (pair lo hi) 127 ⌝ }
+{
+    page_diff::cleared(diff(lo, hi))
+}
+
+#[no_mangle]
+pub extern "C" fn bitbox_diff_count(lo: u64, hi: u64) -> usize
+    ensures { λ r. ⌜ r ≡ countOf (pair lo hi) ⌝ }
+{
+    page_diff::count(diff(lo, hi))
+}
+
+#[no_mangle]
+pub extern "C" fn bitbox_diff_join(lo: u64, hi: u64, lo2: u64, hi2: u64) -> Diff
+    ensures { λ r. ⌜ r .words ≡ joined (pair lo hi) (pair lo2 hi2) ⌝ }
+{
+    page_diff::join(diff(lo, hi), diff(lo2, hi2))
+}
+
+#[no_mangle]
+pub extern "C" fn bitbox_pack(lo: u64, hi: u64, page: &[u8]) -> PackAnswer
+    ensures { λ r. ⌜ (r .refusal ≡ refusalOf (packAnswer (pair lo hi) (now (page .entry)))) × (r .packed ≡ packedOf (pair lo hi) (now (page .entry))) ⌝ }
+{
+    let p = page_diff::pack_changed_nodes(diff(lo, hi), page);
+    let outcome = p.outcome;
+    let packed = p.packed;
+    PackAnswer {
+        refusal: refusal_of(outcome),
+        packed,
+    }
+}
+
+#[no_mangle]
+pub extern "C" fn bitbox_unpack(
+    lo: u64,
+    hi: u64,
+    nodes: &[[u8; 32]; 126],
+    count: usize,
+    page: &mut [u8],
+) -> Answer
+    ensures { λ r. ⌜ (r ≡ outcomeWords (unpackAnswer (pair lo hi) count (now (page .entry)))) × (now (page .exit) ≡ unpackedPage (pair lo hi) (now (nodes .entry)) count (now (page .entry))) ⌝ }
+{
+    of_outcome(page_diff::unpack_changed_nodes(diff(lo, hi), nodes, count, page))
+}
+
+// ---- tags and places
+
+#[no_mangle]
+pub extern "C" fn bitbox_full_tag(hash: u64) -> u8
+    ensures { λ r. ⌜ r ≡ fullTag hash ⌝ }
+{
+    meta_map::full_entry(hash)
+}
+
+#[no_mangle]
+pub extern "C" fn bitbox_hint_empty(tag: u8) -> bool
+    ensures { λ r. ⌜ r ≡ isKind empty (kindOf tag) ⌝ }
+{
+    meta_map::hint_empty(tag)
+}
+
+#[no_mangle]
+pub extern "C" fn bitbox_hint_tombstone(tag: u8) -> bool
+    ensures { λ r. ⌜ r ≡ isKind tombstone (kindOf tag) ⌝ }
+{
+    meta_map::hint_tombstone(tag)
+}
+
+#[no_mangle]
+pub extern "C" fn bitbox_hint_not_match(tag: u8, hash: u64) -> bool
+    ensures { λ r. ⌜ r ≡ not (eqb tag (fullTag hash)) ⌝ }
+{
+    meta_map::hint_not_match(tag, hash)
+}
+
+#[no_mangle]
+pub extern "C" fn bitbox_is_full(tag: u8) -> bool
+    ensures { λ r. ⌜ r ≡ isKind full (kindOf tag) ⌝ }
+{
+    meta_map::is_full(tag)
+}
+
+#[no_mangle]
+pub extern "C" fn bitbox_set_full(tags: &mut [u8], n: usize, bucket: u64, hash: u64) -> Answer
+    ensures { λ r. ⌜ (r ≡ outcomeWords (writeAnswer (now (tags .entry)) n bucket)) × (now (tags .exit) ≡ tagWritten (now (tags .entry)) n bucket (fullTag hash)) ⌝ }
+{
+    of_outcome(meta_map::set_full(tags, n, bucket, hash))
+}
+
+#[no_mangle]
+pub extern "C" fn bitbox_set_tombstone(tags: &mut [u8], n: usize, bucket: u64) -> Answer
+    ensures { λ r. ⌜ (r ≡ outcomeWords (writeAnswer (now (tags .entry)) n bucket)) × (now (tags .exit) ≡ tagWritten (now (tags .entry)) n bucket 0x7F) ⌝ }
+{
+    of_outcome(meta_map::set_tombstone(tags, n, bucket))
+}
+
+#[no_mangle]
+pub extern "C" fn bitbox_full_count(tags: &[u8], n: usize) -> Answer
+    ensures { λ r. ⌜ r ≡ numberWords (ifTags (now (tags .entry)) n (given (fullCount full (now (tags .entry)) n))) ⌝ }
+{
+    of_number(meta_map::full_count(tags, n))
+}
+
+#[no_mangle]
+pub extern "C" fn bitbox_padding_is_empty(tags: &[u8], n: usize) -> Answer
+    ensures { λ r. ⌜ r ≡ truthWords (ifTags (now (tags .entry)) n (given (paddingEmpty (now (tags .entry)) n))) ⌝ }
+{
+    of_truth(meta_map::padding_is_empty(tags, n))
+}
+
+#[no_mangle]
+pub extern "C" fn bitbox_tag_page(bucket: u64) -> u64
+    ensures { λ r. ⌜ r ≡ bucket / 4096 ⌝ }
+{
+    meta_map::page_index(bucket)
+}
+
+#[no_mangle]
+pub extern "C" fn bitbox_tag_pages(n: usize) -> Answer
+    ensures { λ r. ⌜ r ≡ numberWords (ifCount n (tagPages n)) ⌝ }
+{
+    of_number(ht_file::num_meta_byte_pages(n))
+}
+
+#[no_mangle]
+pub extern "C" fn bitbox_table_length(n: usize) -> Answer
+    ensures { λ r. ⌜ r ≡ numberWords (ifCount n (imageLength n)) ⌝ }
+{
+    of_number(ht_file::expected_file_len(n))
+}
+
+#[no_mangle]
+pub extern "C" fn bitbox_page_number(n: usize, bucket: u64) -> Answer
+    ensures { λ r. ⌜ r ≡ numberWords (pageOf n bucket) ⌝ }
+{
+    of_number(ht_file::data_page_index(n, bucket))
+}
+
+// ---- the path of a hash
+
+#[no_mangle]
+pub extern "C" fn bitbox_probe(tags: &[u8], n: usize, hash: u64, k: u64) -> Probed
+    ensures { λ r. ⌜ r ≡ probeWords (probeAnswer (now (tags .entry)) n hash k) ⌝ }
+{
+    of_probed(probe::probe_from(tags, n, hash, k))
+}
+
+#[no_mangle]
+pub extern "C" fn bitbox_lookup(image: &[u8], n: usize, hash: u64, id: &[u8; 32]) -> Found
+    ensures { λ r. ⌜ r ≡ lookupWords (lookupAnswer (now (image .entry)) n hash (now (id .entry))) ⌝ }
+{
+    of_found(probe::lookup(image, n, hash, *id))
+}
+
+#[no_mangle]
+pub extern "C" fn bitbox_allocate(tags: &mut [u8], n: usize, hash: u64) -> Answer
+    ensures { λ r. ⌜ (r ≡ numberWords (allocateAnswer hitLimit (now (tags .entry)) n hash)) × (now (tags .exit) ≡ allocatedTags hitLimit (now (tags .entry)) n hash) ⌝ }
+{
+    of_allocated(probe::allocate_bucket(tags, n, hash))
+}
+
+// ---- the log
+
+#[no_mangle]
+pub extern "C" fn bitbox_reader_set(log: &[u8]) -> Answer
+    ensures { λ r. ⌜ r ≡ numberWords (startOf (now (log .entry))) ⌝ }
+{
+    of_number(wal_read::set(log))
+}
+
+#[no_mangle]
+pub extern "C" fn bitbox_reader_next(log: &[u8], at: usize) -> Entry
+    ensures { λ r. ⌜ Read (nextAt (now (log .entry)) at) at r ⌝ }
+{
+    let e = wal_read::entry_at(log, at);
+    let what = e.what;
+    let id = e.id;
+    let diff = e.diff;
+    let packed = e.packed;
+    let elided = e.elided;
+    Entry {
+        refusal: entry_refusal(what),
+        kind: entry_kind(what),
+        bucket: entry_bucket(what),
+        next: e.next as u64,
+        id,
+        diff,
+        packed,
+        elided,
+    }
+}
+
+fn entry_refusal(w: wal_read::What) -> u64
+    ensures { λ r. ⌜ r ≡ entryRefusal (whatSaid w) ⌝ }
+{
+    if let wal_read::What::Refused(why) = w {
+        return refusal_number(why);
+    }
+    0
+}
+
+fn entry_kind(w: wal_read::What) -> u64
+    ensures { λ r. ⌜ r ≡ entryKind (whatSaid w) ⌝ }
+{
+    match w {
+        wal_read::What::Clear(_) => 1,
+        wal_read::What::Update(_) => 2,
+        wal_read::What::End => 0,
+        wal_read::What::Refused(_) => 0,
+    }
+}
+
+fn entry_bucket(w: wal_read::What) -> u64
+    ensures { λ r. ⌜ r ≡ entryBucket (whatSaid w) ⌝ }
+{
+    match w {
+        wal_read::What::Clear(b) => b,
+        wal_read::What::Update(b) => b,
+        wal_read::What::End => 0,
+        wal_read::What::Refused(_) => 0,
+    }
+}
+
+#[no_mangle]
+pub extern "C" fn bitbox_begin(log: &mut [u8], w: WriterState, sync_seqn: u32) -> Written
+    ensures { λ r. ⌜ (r ≡ writtenWords (beginAnswer (now (log .entry))) (beginWriter (now (log .entry)) (writerOf w))) × (now (log .exit) ≡ beginLog (now (log .entry)) «sync_seqn») ⌝ }
+{
+    of_written(wal_write::begin(log, writer_of(w), sync_seqn))
+}
+
+#[no_mangle]
+pub extern "C" fn bitbox_write_clear(log: &mut [u8], w: WriterState, bucket: u64) -> Written
+    ensures { λ r. ⌜ (r ≡ writtenWords (clearAnswer (now (log .entry)) (writerOf w)) (clearWriter (now (log .entry)) (writerOf w))) × (now (log .exit) ≡ clearLog (now (log .entry)) (writerOf w) bucket) ⌝ }
+{
+    of_written(wal_write::write_clear(log, writer_of(w), bucket))
+}
+
+#[no_mangle]
+pub extern "C" fn bitbox_write_update(
+    log: &mut [u8],
+    w: WriterState,
+    id: &[u8; 32],
+    lo: u64,
+    hi: u64,
+    nodes: &[[u8; 32]; 126],
+    count: usize,
+    elided: &[u8; 8],
+    bucket: u64,
+) -> Written
+    ensures { λ r. ⌜ (r ≡ writtenWords (updateAnswer (now (log .entry)) (writerOf w) (pair lo hi) count) (updateWriter (now (log .entry)) (writerOf w) (pair lo hi) count)) × (now (log .exit) ≡ updateLog (now (log .entry)) (writerOf w) (now (id .entry)) (pair lo hi) (now (nodes .entry)) count (now (elided .entry)) bucket) ⌝ }
+{
+    of_written(wal_write::write_update(
+        log,
+        writer_of(w),
+        *id,
+        diff(lo, hi),
+        nodes,
+        count,
+        *elided,
+        bucket,
+    ))
+}
+
+#[no_mangle]
+pub extern "C" fn bitbox_finish(log: &mut [u8], w: WriterState) -> Written
+    ensures { λ r. ⌜ (r ≡ finishedWords (finishAnswer (now (log .entry)) (writerOf w)) (finishWriter (now (log .entry)) (writerOf w))) × (now (log .exit) ≡ finishLog (now (log .entry)) (writerOf w)) ⌝ }
+{
+    of_finished(wal_write::finish(log, writer_of(w)))
+}
+
+// ---- sync
+
+#[no_mangle]
+pub extern "C" fn bitbox_sync_step(
+    tags: &mut [u8],
+    marks: &mut [u8],
+    cells: &mut [u64],
+    log: &mut [u8],
+    page: &[u8],
+    c: Change,
+    st: StepState,
+) -> StepAnswer
+    ensures { λ r. ⌜ (r ≡ stepWords (pageNumber (stateOf st) (effectOf (stateOf st) (memOf (now (tags .entry)) (now (marks .entry)) (now (cells .entry)) (now (log .entry))) (now (page .entry)) c)) (stateWords (stateBy (effectOf (stateOf st) (memOf (now (tags .entry)) (now (marks .entry)) (now (cells .entry)) (now (log .entry))) (now (page .entry)) c) (stateOf st) c))) × (memOf (now (tags .exit)) (now (marks .exit)) (now (cells .exit)) (now (log .exit)) ≡ memBy (effectOf (stateOf st) (memOf (now (tags .entry)) (now (marks .entry)) (now (cells .entry)) (now (log .entry))) (now (page .entry)) c) (stateOf st) (memOf (now (tags .entry)) (now (marks .entry)) (now (cells .entry)) (now (log .entry))) (now (page .entry)) c) ⌝ }
+{
+    let s = sync::step(tags, marks, cells, log, page, c, state_of(st));
+    let t = s.taken;
+    let after = s.state;
+    of_taken(t, of_state(after))
+}
+
+fn state_of(st: StepState) -> sync::SyncState
+    ensures { λ r. ⌜ r ≡ stateOf st ⌝ }
+{
+    sync::SyncState {
+        n: st.n as usize,
+        writer: writer_of(st.writer),
+        occupied: st.occupied,
+    }
+}
+
+fn of_state(st: sync::SyncState) -> StepState
+    ensures { λ r. ⌜ r ≡ stateWords st ⌝ }
+{
+    let w = st.writer;
+    StepState {
+        n: st.n as u64,
+        writer: of_writer(w),
+        occupied: st.occupied,
+    }
+}
+
+#[no_mangle]
+pub extern "C" fn bitbox_sync(
+    tags: &mut [u8],
+    marks: &mut [u8],
+    cells: &mut [u64],
+    log: &mut [u8],
+    pages: &[u8],
+    changes: &[Change],
+    n: usize,
+    w: WriterState,
+    sync_seqn: u32,
+) -> SyncAnswer
+    ensures { λ r. ⌜ (r ≡ syncWords (syncSays n (memOf (now (tags .entry)) (now (marks .entry)) (now (cells .entry)) (now (log .entry))) (now (pages .entry)) (now (changes .entry)) «sync_seqn») (writerWords (syncWriter n (memOf (now (tags .entry)) (now (marks .entry)) (now (cells .entry)) (now (log .entry))) (now (pages .entry)) (now (changes .entry)) «sync_seqn» (writerOf w)))) × (memOf (now (tags .exit)) (now (marks .exit)) (now (cells .exit)) (now (log .exit)) ≡ syncMem n (memOf (now (tags .entry)) (now (marks .entry)) (now (cells .entry)) (now (log .entry))) (now (pages .entry)) (now (changes .entry)) «sync_seqn») ⌝ }
+{
+    of_sync(sync::sync(
+        tags,
+        marks,
+        cells,
+        log,
+        pages,
+        changes,
+        n,
+        writer_of(w),
+        sync_seqn,
+    ))
+}
+
+// ---- replay
+
+#[no_mangle]
+pub extern "C" fn bitbox_replay(
+    image: &mut [u8],
+    n: usize,
+    log: &[u8],
+    sync_seqn: u32,
+    hashes: &[u64],
+) -> Answer
+    ensures { λ r. ⌜ (r ≡ replayWords (replayAnswer n (now (image .entry)) (now (log .entry)) «sync_seqn» (now (hashes .entry)))) × (now (image .exit) ≡ replayImage n (now (image .entry)) (now (log .entry)) «sync_seqn» (now (hashes .entry))) ⌝ }
+{
+    of_recovered(recover::recover(image, n, log, sync_seqn, hashes))
+}
+
+#[no_mangle]
+pub extern "C" fn bitbox_replay_step(
+    image: &mut [u8],
+    n: usize,
+    log: &[u8],
+    at: usize,
+    hash: u64,
+) -> Stepped
+    ensures { λ r. ⌜ (r ≡ wentWords (stepAnswer n (now (image .entry)) (now (log .entry)) at)) × (now (image .exit) ≡ stepImage n (now (image .entry)) (now (log .entry)) at hash) ⌝ }
+{
+    of_stepped(recover::apply_entry(image, n, log, at, hash))
+}
+
+// ---- growth and audit
+
+#[no_mangle]
+pub extern "C" fn bitbox_write_marker(old: u32, new: u32) -> MarkerBytes
+    ensures { λ r. ⌜ (r .refusal ≡ refusalOf (writeMarkerAnswer old new)) × (r .bytes ≡ writtenMarker old new) ⌝ }
+{
+    let m = rehash::write_marker(old, new);
+    let outcome = m.outcome;
+    let bytes = m.bytes;
+    MarkerBytes {
+        refusal: refusal_of(outcome),
+        bytes,
+    }
+}
+
+#[no_mangle]
+pub extern "C" fn bitbox_read_marker(bytes: &[u8]) -> Marker
+    ensures { λ r. ⌜ r ≡ markerWords (readMarkerAnswer (now (bytes .entry))) ⌝ }
+{
+    of_marker(rehash::read_marker(bytes))
+}
+
+#[no_mangle]
+pub extern "C" fn bitbox_pending(old: u64, new: u64, meta: u64, file_len: u64) -> Answer
+    ensures { λ r. ⌜ r ≡ leftWords (pendingAnswer old new meta «file_len») ⌝ }
+{
+    of_decision(rehash::pending(old, new, meta, file_len))
+}
+
+#[no_mangle]
+pub extern "C" fn bitbox_grow(
+    old_image: &[u8],
+    old_n: usize,
+    new_image: &mut [u8],
+    new_n: usize,
+    hashes: &[u64],
+) -> Answer
+    ensures { λ r. ⌜ (r ≡ growthWords (growthAnswer hitLimit (now («old_image» .entry)) «old_n» (now («new_image» .entry)) «new_n» (now (hashes .entry)))) × (now («new_image» .exit) ≡ growthImage hitLimit (now («old_image» .entry)) «old_n» (now («new_image» .entry)) «new_n» (now (hashes .entry))) ⌝ }
+{
+    of_grown(rehash::grow(old_image, old_n, new_image, new_n, hashes))
+}
+
+#[no_mangle]
+pub extern "C" fn bitbox_audit(image: &[u8], n: usize, hashes: &[u64]) -> Audited
+    ensures { λ r. ⌜ r ≡ auditWords (auditAnswer (now (image .entry)) n (now (hashes .entry))) ⌝ }
+{
+    of_audited(validate::validate_hashtable(image, n, hashes))
+}
