@@ -67,11 +67,12 @@ extern "C" {
     ) -> u8;
     pub fn bitbox_finish(log: *mut u8, log_len: usize, state: &mut [u64; 2], out: &mut [u64; 1]) -> u8;
 
-    /// The state is a writer's and then occupied. Out: bucket, page number.
+    /// The state is a writer's and then occupied; the change is its id, and hash, diff, kind and place as in
+    /// `Change`. Out: bucket, page number.
     pub fn bitbox_sync_step(
         tags: *mut u8, tags_len: usize, n: u64, cells: *mut u64, cells_len: usize,
         marks: *mut u8, marks_len: usize, log: *mut u8, log_len: usize,
-        state: &mut [u64; 3], change: &Change, page: *const u8, page_len: usize, out: &mut [u64; 2],
+        state: &mut [u64; 3], id: &[u8; 32], change: &[u64; 5], page: *const u8, page_len: usize, out: &mut [u64; 2],
     ) -> u8;
     /// Occupied; the log's length; 0, or 1 and the change that is refused.
     pub fn bitbox_sync(

@@ -374,7 +374,7 @@ impl Log {
                     log.push(UPDATE);
                     log.extend(label.id());
                     log.extend(diff.bytes());
-                    let nodes = diff.0 & (1 << 126) - 1;
+                    let nodes = diff.0 & ((1 << 126) - 1);
                     log.extend(Filler { len: 32 * nodes.count_ones() as usize + 8, with: *with }.bytes());
                     log.extend(bucket.to_le_bytes());
                 }
@@ -524,7 +524,7 @@ pub fn good_diff(rng: &mut Rng) -> Diff {
     let d = any_diff(rng);
     match rng.below(12) {
         0 => Diff((1 << 126) - 1),
-        _ => Diff(d.0 & (1 << 126) - 1),
+        _ => Diff(d.0 & ((1 << 126) - 1)),
     }
 }
 

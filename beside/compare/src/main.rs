@@ -103,5 +103,5 @@ fn main() {
         }
     }
     run.table();
-    std::process::exit((run.differences > 0) as i32);
+    std::process::exit((run.differences > 0 || !run.untried().is_empty()) as i32);
 }

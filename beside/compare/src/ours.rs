@@ -287,6 +287,7 @@ impl Engine for Ours {
         let [kind, at] = state_words(state.writer);
         let mut words = [kind, at, state.occupied];
         let mut out = [0; 2];
+        let c = record(change);
         let said = unsafe {
             ffi::bitbox_sync_step(
                 lent.tags.as_mut_ptr(),
@@ -299,7 +300,8 @@ impl Engine for Ours {
                 lent.log.as_mut_ptr(),
                 lent.log.len(),
                 &mut words,
-                &record(change),
+                &c.id,
+                &[c.hash, c.diff[0], c.diff[1], c.kind, c.place],
                 page.as_ptr(),
                 page.len(),
                 &mut out,

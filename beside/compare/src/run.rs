@@ -250,7 +250,8 @@ fn shrunk<O: Op>(input: O::Input, verdict: &Verdict) -> O::Input {
 struct Tally {
     cases: u64,
     accepted: u64,
-    refused: BTreeMap<u8, u64>,
+    /// By number, and whether at a change of a sync.
+    refused: BTreeMap<(bool, u8), u64>,
     heard: [u64; 6],
     known: BTreeMap<&'static str, u64>,
     notes: BTreeMap<&'static str, u64>,
@@ -268,6 +269,43 @@ fn heard_row(heard: &Heard) -> usize {
         Heard::Held(_) => 5,
     }
 }
+
+/// The refusals that document 01 gives each operation: of the call, and of a sync at a change.
+const REFUSALS: [(&str, &[u8], &[u8]); 33] = [
+    ("diff read", &[4], &[]),
+    ("diff set", &[3], &[]),
+    ("diff ask", &[3], &[]),
+    ("pack", &[2, 4], &[]),
+    ("unpack", &[2, 4], &[]),
+    ("set full", &[1, 9], &[]),
+    ("set tombstone", &[1, 9], &[]),
+    ("full count", &[1], &[]),
+    ("padding", &[1], &[]),
+    ("tag pages", &[1], &[]),
+    ("table length", &[1], &[]),
+    ("page number", &[1, 9], &[]),
+    ("table open", &[1], &[]),
+    ("probe", &[1], &[]),
+    ("lookup", &[1], &[]),
+    ("allocate", &[1, 10, 11], &[]),
+    ("reader set", &[5, 6, 7], &[]),
+    ("reader next", &[4, 6, 8], &[]),
+    ("reader walk", &[4, 5, 6, 7, 8], &[]),
+    ("list", &[2, 4, 5, 6, 7, 8], &[]),
+    ("writer begin", &[13], &[]),
+    ("writer clear", &[12, 13], &[]),
+    ("writer update", &[2, 4, 12, 13], &[]),
+    ("writer finish", &[12, 13], &[]),
+    ("sync", &[1, 2, 13], &[2, 4, 9, 10, 11, 13, 14]),
+    ("sync step", &[1, 2, 4, 9, 10, 11, 12, 13, 14], &[]),
+    ("replay", &[1, 2, 4, 5, 6, 7, 8, 9], &[]),
+    ("replay step", &[1, 4, 6, 8, 9], &[]),
+    ("marker write", &[17], &[]),
+    ("marker read", &[15, 16, 17], &[]),
+    ("pending", &[1, 17, 18], &[]),
+    ("growth", &[1, 2, 10, 11, 19], &[]),
+    ("audit", &[1, 2, 20, 21, 22, 23, 24], &[]),
+];
 
 /// When a run ends.
 #[derive(Clone, Copy)]
@@ -325,7 +363,10 @@ impl Run {
         tally.cases += 1;
         match judged.model.said.number() {
             None => tally.accepted += 1,
-            Some(number) => *tally.refused.entry(number).or_default() += 1,
+            Some(number) => {
+                let at = matches!(judged.model.said, Said::RefusedAt(..));
+                *tally.refused.entry((at, number)).or_default() += 1;
+            }
         }
         tally.heard[heard_row(&judged.heard)] += 1;
         for note in O::notes(&input, &judged.model) {
@@ -355,11 +396,27 @@ impl Run {
         }
     }
 
+    /// The refusals of the operations in this run that no case met.
+    pub fn untried(&self) -> Vec<String> {
+        let mut out = Vec::new();
+        for (name, plain, at_a_change) in REFUSALS {
+            let Some(t) = self.tallies.get(name) else { continue };
+            let wanted = plain.iter().map(|n| (false, *n)).chain(at_a_change.iter().map(|n| (true, *n)));
+            out.extend(wanted.filter(|w| !t.refused.contains_key(w)).map(|(_, n)| format!("{name} {n}")));
+        }
+        out
+    }
+
     pub fn table(&self) {
         println!("\n{:<18}{:>10}{:>10}  refused (number: cases)", "operation", "cases", "accepted");
         for (name, t) in &self.tallies {
-            let refused: Vec<String> = t.refused.iter().map(|(n, c)| format!("{n}: {c}")).collect();
+            let told = |((at, n), c): (&(bool, u8), &u64)| format!("{}{n}: {c}", if *at { "at a change " } else { "" });
+            let refused: Vec<String> = t.refused.iter().map(told).collect();
             println!("{name:<18}{:>10}{:>10}  {}", t.cases, t.accepted, refused.join(", "));
+        }
+        match &self.untried()[..] {
+            [] => println!("each refusal that 01 gives these operations was met"),
+            untried => println!("NOT MET: {}", untried.join(", ")),
         }
         for (name, t) in self.tallies.iter().filter(|(_, t)| !t.notes.is_empty()) {
             let notes: Vec<String> = t.notes.iter().map(|(n, c)| format!("{n}: {c}")).collect();

@@ -330,6 +330,11 @@ pub fn exhaustive(run: &mut Run) {
             run.case::<ReadOp>(List(log));
         }
         for changed in changed_bytes(&log) {
+            let (at, _) = changed.changed[0];
+            if at < 6 {
+                run.case::<ReadOp>(Set(changed.clone()));
+                run.case::<ReadOp>(List(changed.clone()));
+            }
             run.case::<ReadOp>(Walk(changed));
         }
         let len = log.bytes().len() as u64;
