@@ -1,0 +1,328 @@
+/* A hash table of tree pages on disk, proved: the functions of libbitbox.a, for x86-64.
+ *
+ * Every call on every input ends with an answer. A slice is a pointer and then its length in elements; a
+ * length of 0 goes with any pointer but NULL. All that a caller has to see to is that pointers and lengths
+ * are true, and that nobody else writes what is lent. The library keeps nothing between calls, so calls on
+ * separate memory may run in separate threads.
+ *
+ * An answer begins with `refusal`: 0, or the number of the reason for which nothing was done
+ * (BITBOX_... below; docs/ANSWERS.md has a sentence on each). A refused call leaves all that it was lent,
+ * but for two: bitbox_grow refused with 10 or 11 leaves the new image all zero, and a bitbox_sync refused
+ * at a change keeps what the changes before it did.
+ */
+#ifndef BITBOX_H
+#define BITBOX_H
+
+#include <stdbool.h>
+#include <stddef.h>
+#include <stdint.h>
+
+#ifdef __cplusplus
+extern "C" {
+#endif
+
+#define BITBOX_PAGE 4096         /* bytes of a page */
+#define BITBOX_SLOTS 126         /* slots of a page */
+#define BITBOX_NODE 32           /* bytes of a slot's node */
+#define BITBOX_MOST_BUCKETS 1048576
+#define BITBOX_UNSET UINT64_MAX  /* a cell with no bucket yet */
+#define BITBOX_FIRST_ENTRY 5     /* where the first entry stands in a log */
+
+/* The refusals. */
+enum {
+    BITBOX_DONE = 0,
+    BITBOX_TABLE_UNFIT = 1,      /* no bucket or too many, or a table of another length */
+    BITBOX_LENGTH_UNFIT = 2,     /* another length, a node count that is not the diff's, no such cell */
+    BITBOX_SLOT_UNFIT = 3,       /* no such slot */
+    BITBOX_DIFF_RESERVED = 4,    /* bit 126, or bit 127 where nodes were expected */
+    BITBOX_LOG_NOT_PAGES = 5,    /* a log's length is no multiple of 4,096 */
+    BITBOX_LOG_CUT = 6,          /* a log ends inside a record or before its end */
+    BITBOX_NO_START = 7,         /* a log does not begin with a start */
+    BITBOX_TAG_UNKNOWN = 8,      /* a record begins with a byte that is no record's */
+    BITBOX_BUCKET_OUTSIDE = 9,   /* no such bucket */
+    BITBOX_PATH_CROWDED = 10,    /* no bucket: hits, and no free visit within the limit */
+    BITBOX_PATH_CLOSED = 11,     /* no bucket: neither a free visit nor a hit */
+    BITBOX_WRITER_NOT_OPEN = 12, /* the writer has not begun, or has finished */
+    BITBOX_NO_ROOM = 13,         /* no room for this record and the end */
+    BITBOX_BUCKET_UNFIT = 14,    /* not the tag that the change needs, or a clear with no bucket */
+    BITBOX_MARKER_LENGTH = 15,   /* a growth marker is 16 bytes */
+    BITBOX_MARKER_MAGIC = 16,    /* no growth marker */
+    BITBOX_MARKER_ORDER = 17,    /* the new count is not above the old one */
+    BITBOX_NOTHING_PENDING = 18, /* counts and length fit no step of a growth */
+    BITBOX_WOULD_SHRINK = 19,    /* the new table would be smaller */
+    BITBOX_PADDING_USED = 20,    /* a byte after the last tag is not zero */
+    BITBOX_LABEL_TWICE = 21,     /* two buckets hold a page with the same id */
+    BITBOX_TAG_WRONG = 22,       /* a bucket's tag is not its page's */
+    BITBOX_EMPTY_FIRST = 23,     /* a page's path meets an empty bucket before its own */
+    BITBOX_NOT_REACHED = 24      /* a page's path never comes to its bucket */
+};
+
+/* What `kind` and `value` say. */
+enum { BITBOX_PROBED_EMPTY = 0, BITBOX_PROBED_TOMBSTONE = 1, BITBOX_PROBED_HIT = 2, BITBOX_PROBED_CLOSED = 3 };
+enum { BITBOX_FOUND_AT = 0, BITBOX_FOUND_ABSENT = 1, BITBOX_FOUND_CLOSED = 2 };
+enum { BITBOX_ENTRY_END = 0, BITBOX_ENTRY_CLEAR = 1, BITBOX_ENTRY_UPDATE = 2 };
+enum { BITBOX_WRITER_FRESH = 0, BITBOX_WRITER_OPEN = 1, BITBOX_WRITER_FINISHED = 2 };
+enum { BITBOX_KNOWN = 0, BITBOX_FRESH = 1, BITBOX_CELL = 2 };
+enum { BITBOX_REPLAY_NOTHING = 0, BITBOX_REPLAY_STALE = 1, BITBOX_REPLAY_APPLIED = 2 };
+enum { BITBOX_STEP_END = 0, BITBOX_STEP_CLEARED = 1, BITBOX_STEP_UPDATED = 2 };
+enum { BITBOX_PENDING_TIDY = 0, BITBOX_PENDING_UPDATE_META = 1 };
+enum { BITBOX_GROWN_NOTHING = 0, BITBOX_GROWN_DONE = 1 };
+
+/* ---- structs */
+
+/* Which slots changed: bit i of word w is slot 64w + i; bit 127 is that of a cleared page. */
+typedef struct {
+    uint64_t words[2];
+} bitbox_diff;
+
+/* The nodes of a diff's slots, in rising order, and how many count. */
+typedef struct {
+    uint8_t nodes[126][32];
+    size_t count;
+} bitbox_packed;
+
+/* Where a bucket is known from: BITBOX_KNOWN with the bucket, BITBOX_FRESH, any other a cell's index. */
+typedef struct {
+    uint64_t kind;
+    uint64_t at;
+} bitbox_place;
+
+/* A change of a page. */
+typedef struct {
+    uint8_t id[32];
+    uint64_t hash;
+    bitbox_diff diff;
+    bitbox_place place;
+} bitbox_change;
+
+/* A value, 0 where it is refused. */
+typedef struct {
+    uint64_t refusal;
+    uint64_t value;
+} bitbox_answer;
+
+/* A diff: of no mark where it is refused to read one, the lent one where to set one. */
+typedef struct {
+    uint64_t refusal;
+    bitbox_diff diff;
+} bitbox_diff_answer;
+
+/* Packed nodes: none where it is refused. */
+typedef struct {
+    uint64_t refusal;
+    bitbox_packed packed;
+} bitbox_pack_answer;
+
+/* What probing comes to: BITBOX_PROBED_..., the bucket and its visit. */
+typedef struct {
+    uint64_t refusal;
+    uint64_t kind;
+    uint64_t bucket;
+    uint64_t visit;
+} bitbox_probed;
+
+/* What lookup comes to: BITBOX_FOUND_..., the bucket. */
+typedef struct {
+    uint64_t refusal;
+    uint64_t kind;
+    uint64_t bucket;
+} bitbox_found;
+
+/* An entry of a log: BITBOX_ENTRY_..., its bucket, where the next stands; what an update has. */
+typedef struct {
+    uint64_t refusal;
+    uint64_t kind;
+    uint64_t bucket;
+    uint64_t next;
+    uint8_t id[32];
+    bitbox_diff diff;
+    bitbox_packed packed;
+    uint8_t elided[8];
+} bitbox_entry;
+
+/* A writer's state: BITBOX_WRITER_..., the position or the finished log's length. */
+typedef struct {
+    uint64_t kind;
+    uint64_t at;
+} bitbox_writer_state;
+
+/* What a writer's call comes to (the log's length for finish), and the state after it. */
+typedef struct {
+    uint64_t refusal;
+    uint64_t length;
+    bitbox_writer_state writer;
+} bitbox_written;
+
+/* The state of a sync that is made step by step. */
+typedef struct {
+    uint64_t n;
+    bitbox_writer_state writer;
+    uint64_t occupied;
+} bitbox_step_state;
+
+/* What a step of a sync comes to: the bucket, its page's number, the state after it. */
+typedef struct {
+    uint64_t refusal;
+    uint64_t bucket;
+    uint64_t page;
+    bitbox_step_state state;
+} bitbox_step_answer;
+
+/* What a sync comes to: full buckets and the log's length, or a refusal, at `change` where at_change is 1. */
+typedef struct {
+    uint64_t refusal;
+    uint64_t at_change;
+    uint64_t change;
+    uint64_t occupied;
+    uint64_t length;
+    bitbox_writer_state writer;
+} bitbox_sync_answer;
+
+/* What a step of replay comes to: BITBOX_STEP_..., where the next entry stands. */
+typedef struct {
+    uint64_t refusal;
+    uint64_t kind;
+    uint64_t next;
+} bitbox_stepped;
+
+/* The counts of a growth marker. */
+typedef struct {
+    uint64_t refusal;
+    uint64_t old_count;
+    uint64_t new_count;
+} bitbox_marker;
+
+/* The bytes of a growth marker: zeros where it is refused. */
+typedef struct {
+    uint64_t refusal;
+    uint8_t bytes[16];
+} bitbox_marker_bytes;
+
+/* What an audit comes to: buckets, full ones, and their rate. */
+typedef struct {
+    uint64_t refusal;
+    uint64_t capacity;
+    uint64_t occupied;
+    double rate;
+} bitbox_audited;
+
+/* ---- diffs; lo and hi are a diff's words */
+
+/* A diff out of its 16 bytes. 4. */
+bitbox_diff_answer bitbox_diff_read(const uint8_t bytes[16]);
+/* A diff's 16 bytes. */
+void bitbox_diff_bytes(uint64_t lo, uint64_t hi, uint8_t bytes[16]);
+/* A slot marked, and no longer cleared. 3. */
+bitbox_diff_answer bitbox_diff_set(uint64_t lo, uint64_t hi, size_t slot);
+/* 1 if a slot is marked, else 0. 3. */
+bitbox_answer bitbox_diff_ask(uint64_t lo, uint64_t hi, size_t slot);
+/* With the mark of a cleared page. */
+bitbox_diff bitbox_diff_set_cleared(uint64_t lo, uint64_t hi);
+/* Whether it has that mark. */
+bool bitbox_diff_cleared(uint64_t lo, uint64_t hi);
+/* How many marks it has. */
+size_t bitbox_diff_count(uint64_t lo, uint64_t hi);
+/* The marks of both. */
+bitbox_diff bitbox_diff_join(uint64_t lo, uint64_t hi, uint64_t lo2, uint64_t hi2);
+/* The nodes of the marked slots. 2, 4. */
+bitbox_pack_answer bitbox_pack(uint64_t lo, uint64_t hi, const uint8_t *page, size_t page_len);
+/* Puts nodes at the marked slots. 2, 4, 2. */
+bitbox_answer bitbox_unpack(uint64_t lo, uint64_t hi, const uint8_t nodes[126][32], size_t count, uint8_t *page,
+                            size_t page_len);
+
+/* ---- tags, lengths, page numbers; `tags` are the tag pages of a table of n buckets */
+
+/* The full tag of a hash. */
+uint8_t bitbox_full_tag(uint64_t hash);
+/* Whether a tag is that of an empty bucket. */
+bool bitbox_hint_empty(uint8_t tag);
+/* Whether a tag is a tombstone. */
+bool bitbox_hint_tombstone(uint8_t tag);
+/* Whether a tag is not the full tag of a hash. */
+bool bitbox_hint_not_match(uint8_t tag, uint64_t hash);
+/* Whether a tag is that of a full bucket. */
+bool bitbox_is_full(uint8_t tag);
+/* Makes a bucket's tag the full tag of a hash. 1, 9. */
+bitbox_answer bitbox_set_full(uint8_t *tags, size_t tags_len, size_t n, uint64_t bucket, uint64_t hash);
+/* Makes a bucket's tag a tombstone. 1, 9. */
+bitbox_answer bitbox_set_tombstone(uint8_t *tags, size_t tags_len, size_t n, uint64_t bucket);
+/* How many buckets are full. 1. */
+bitbox_answer bitbox_full_count(const uint8_t *tags, size_t tags_len, size_t n);
+/* 1 if the bytes after the last tag are all zero, else 0. 1. */
+bitbox_answer bitbox_padding_is_empty(const uint8_t *tags, size_t tags_len, size_t n);
+/* The tag page that has a bucket's tag. */
+uint64_t bitbox_tag_page(uint64_t bucket);
+/* How many tag pages a table has. 1. */
+bitbox_answer bitbox_tag_pages(size_t n);
+/* How many bytes a table's image has. 1. */
+bitbox_answer bitbox_table_length(size_t n);
+/* The number of a bucket's page in the image. 1, 9. */
+bitbox_answer bitbox_page_number(size_t n, uint64_t bucket);
+
+/* ---- the path of a hash */
+
+/* The first empty bucket, tombstone or hit among 2n visits from visit k. 1. */
+bitbox_probed bitbox_probe(const uint8_t *tags, size_t tags_len, size_t n, uint64_t hash, uint64_t k);
+/* The bucket of the page with this id. 1. */
+bitbox_found bitbox_lookup(const uint8_t *image, size_t image_len, size_t n, uint64_t hash, const uint8_t id[32]);
+/* Takes a bucket: its tag becomes the hash's. 1, 10 or 11. */
+bitbox_answer bitbox_allocate(uint8_t *tags, size_t tags_len, size_t n, uint64_t hash);
+
+/* ---- the log */
+
+/* The sync number of a log. 5, 6, 7. */
+bitbox_answer bitbox_reader_set(const uint8_t *log, size_t log_len);
+/* The entry at a position. 4, 6, 8. */
+bitbox_entry bitbox_reader_next(const uint8_t *log, size_t log_len, size_t at);
+/* Begins a log, in any state. 13. */
+bitbox_written bitbox_begin(uint8_t *log, size_t log_len, bitbox_writer_state w, uint32_t sync_seqn);
+/* Writes that a bucket is cleared. 12, 13. */
+bitbox_written bitbox_write_clear(uint8_t *log, size_t log_len, bitbox_writer_state w, uint64_t bucket);
+/* Writes that a page is changed. 12, 2, 4, 13. */
+bitbox_written bitbox_write_update(uint8_t *log, size_t log_len, bitbox_writer_state w, const uint8_t id[32],
+                                   uint64_t lo, uint64_t hi, const uint8_t nodes[126][32], size_t count,
+                                   const uint8_t elided[8], uint64_t bucket);
+/* Finishes the log. 12, 13. */
+bitbox_written bitbox_finish(uint8_t *log, size_t log_len, bitbox_writer_state w);
+
+/* ---- sync; `marks` has a byte for each tag page, `cells` buckets that changes share */
+
+/* One change. 1, 2, 12, then 4, 2, 9, 14, 13, 10 or 11. */
+bitbox_step_answer bitbox_sync_step(uint8_t *tags, size_t tags_len, uint8_t *marks, size_t marks_len, uint64_t *cells,
+                                    size_t cells_len, uint8_t *log, size_t log_len, const uint8_t *page,
+                                    size_t page_len, bitbox_change c, bitbox_step_state st);
+/* A list of changes, with a page for each. 1, 2, 13; at a change 4, 2, 9, 14, 13, 10 or 11. */
+bitbox_sync_answer bitbox_sync(uint8_t *tags, size_t tags_len, uint8_t *marks, size_t marks_len, uint64_t *cells,
+                               size_t cells_len, uint8_t *log, size_t log_len, const uint8_t *pages,
+                               size_t pages_len, const bitbox_change *changes, size_t changes_len, size_t n,
+                               bitbox_writer_state w, uint32_t sync_seqn);
+
+/* ---- replay */
+
+/* A log into an image, with a hash for each update: BITBOX_REPLAY_... 1, 5, 7, an entry's, 2. */
+bitbox_answer bitbox_replay(uint8_t *image, size_t image_len, size_t n, const uint8_t *log, size_t log_len,
+                            uint32_t sync_seqn, const uint64_t *hashes, size_t hashes_len);
+/* The entry at a position into an image. 1, 4, 6, 8, 9. */
+bitbox_stepped bitbox_replay_step(uint8_t *image, size_t image_len, size_t n, const uint8_t *log, size_t log_len,
+                                  size_t at, uint64_t hash);
+
+/* ---- growth and audit; `hashes` has one for each (old) bucket */
+
+/* The bytes of a growth marker. 17. */
+bitbox_marker_bytes bitbox_write_marker(uint32_t old_count, uint32_t new_count);
+/* A growth marker out of its bytes. 15, 16, 17. */
+bitbox_marker bitbox_read_marker(const uint8_t *bytes, size_t bytes_len);
+/* What is left to do of a growth: BITBOX_PENDING_... 1, 17, 18. */
+bitbox_answer bitbox_pending(uint64_t old_count, uint64_t new_count, uint64_t meta, uint64_t file_len);
+/* Copies a table into a larger one: BITBOX_GROWN_... 1, 19, 2, 10 or 11. */
+bitbox_answer bitbox_grow(const uint8_t *old_image, size_t old_image_len, size_t old_n, uint8_t *new_image,
+                          size_t new_image_len, size_t new_n, const uint64_t *hashes, size_t hashes_len);
+/* Whether every page can be found. 1, 2, 20, then 21, 22, 23 or 24. */
+bitbox_audited bitbox_audit(const uint8_t *image, size_t image_len, size_t n, const uint64_t *hashes,
+                            size_t hashes_len);
+
+#ifdef __cplusplus
+}
+#endif
+
+#endif

@@ -1,0 +1,64 @@
+//! A hash table of tree pages on disk, as NOMT's bitbox is one, proved: safe calls of its static
+//! library.
+//!
+//! Every call on every input ends with an answer: its value, or a [`Refusal`] that has a name, a number
+//! and a sentence. No call needs its caller to check anything first. A refused call leaves all lent
+//! memory as it was, but for two: [`grow`] refused with 10 or 11 leaves the new image all zero, and a
+//! [`sync`] refused at a change keeps what the changes before it did.
+//!
+//! Files, threads and the page hash stay with the caller: memory is lent as slices, a page's hash
+//! arrives as a number. The library keeps nothing between calls, so calls on separate memory may run in
+//! separate threads.
+//!
+//! - A **table image** of n buckets has `tag_pages(n)` tag pages and then n data pages, each of
+//!   [`PAGE`] bytes; bucket b is page `tag_pages(n) + b`. [`lookup`], [`replay`], [`grow`] and [`audit`]
+//!   are lent images.
+//! - **Tags** are the tag pages alone, one byte per bucket, as a service keeps them in memory.
+//!   [`probe`], [`allocate`], [`sync`] and the functions of single tags are lent these.
+//! - A **log** is what a sync writes and a replay reads: [`Reader`], [`LogWriter`].
+//!
+//! ```
+//! use bitbox::{sync, Change, Diff, Lent, Where, Writer, PAGE, UNSET};
+//!
+//! # fn main() -> Result<(), Box<dyn std::error::Error>> {
+//! // A table of 8 buckets; one new page, of which slot 3 is set.
+//! let (mut tags, mut marks, mut cells, mut log) = ([0; PAGE], [0; 1], [UNSET; 1], [0; PAGE]);
+//! let page = [0; PAGE];
+//! let diff = Diff::default().set_changed(3)?;
+//! let change = Change::new([7; 32], 42, diff, Where::Cell(0));
+//!
+//! let mut writer = Writer::Fresh;
+//! let mut lent = Lent { n: 8, tags: &mut tags, marks: &mut marks, cells: &mut cells, log: &mut log };
+//! let synced = sync(&mut lent, &mut writer, 1, &[change], &page)?;
+//! assert_eq!((synced.occupied, synced.length), (1, PAGE));
+//! assert_eq!(cells, [42 % 8]);
+//! # Ok(())
+//! # }
+//! ```
+#![deny(missing_docs, unsafe_code)]
+#![warn(unreachable_pub)]
+
+mod change;
+mod diff;
+#[allow(unsafe_code)]
+mod ffi;
+mod growth;
+mod log;
+mod path;
+mod recover;
+mod refusal;
+mod table;
+mod validate;
+
+pub use change::{sync, sync_step, Change, Lent, State, Step, SyncRefused, Synced, Where, UNSET};
+pub use diff::{Diff, Node, Packed, NODE, SLOTS};
+pub use growth::{grow, pending, read_marker, write_marker, Grown, Marker, Pending};
+pub use log::{read_entry, Elided, Entry, LogWriter, PageId, Reader, Update, Writer, FIRST_ENTRY};
+pub use path::{allocate, lookup, probe, Found, Probed};
+pub use recover::{replay, replay_step, Replayed, Stepped};
+pub use refusal::Refusal;
+pub use table::{
+    full_count, full_tag, hint_empty, hint_not_match, hint_tombstone, is_full, padding_is_empty, page_number, set_full,
+    set_tombstone, table_length, tag_page, tag_pages, EMPTY, MOST_BUCKETS, PAGE, TOMBSTONE,
+};
+pub use validate::{audit, Audit};

@@ -1,0 +1,297 @@
+//! The log of a sync: its reader and its writer.
+
+use crate::{
+    diff::{Diff, Packed},
+    ffi,
+    refusal::said,
+    Refusal,
+};
+use std::iter::FusedIterator;
+
+/// A page's id: the last 32 bytes of the page.
+pub type PageId = [u8; 32];
+
+/// A page's elided children: the 8 bytes before its id.
+pub type Elided = [u8; 8];
+
+/// Where the first entry stands in a log, after its start.
+pub const FIRST_ENTRY: usize = 5;
+
+/// A page that was changed, as a log has it.
+#[derive(Clone, Copy, Debug, PartialEq, Eq)]
+pub struct Update {
+    /// The page's bucket.
+    pub bucket: u64,
+    /// The page's id.
+    pub id: PageId,
+    /// The slots that changed.
+    pub diff: Diff,
+    /// Their nodes.
+    pub nodes: Packed,
+    /// The page's elided children.
+    pub elided: Elided,
+}
+
+/// An entry of a log.
+// An update is 4 KB by value, so that reading takes no memory of its own.
+#[allow(clippy::large_enum_variant)]
+#[derive(Clone, Copy, Debug, PartialEq, Eq)]
+pub enum Entry {
+    /// A bucket was cleared.
+    Clear {
+        /// The bucket.
+        bucket: u64,
+    },
+    /// A page was changed.
+    Update(Update),
+    /// The log is over.
+    End,
+}
+
+/// The entry that stands at a position of a log, and where the next one stands; after the end stands the
+/// end.
+///
+/// # Errors
+///
+/// [`LogCut`](Refusal::LogCut), [`TagUnknown`](Refusal::TagUnknown),
+/// [`DiffReserved`](Refusal::DiffReserved), as the first byte that is wrong has it.
+pub fn read_entry(log: &[u8], at: usize) -> Result<(Entry, usize), Refusal> {
+    let e = ffi::reader_next(log, at);
+    said(e.refusal)?;
+    let entry = match e.kind {
+        0 => Entry::End,
+        1 => Entry::Clear { bucket: e.bucket },
+        // 2; no other kind is answered.
+        _ => Entry::Update(Update { bucket: e.bucket, id: e.id, diff: e.diff, nodes: e.packed, elided: e.elided }),
+    };
+    Ok((entry, position(e.next)))
+}
+
+/// A position as a usize, which has the same 64 bits on every machine that the library is for.
+pub(crate) fn position(at: u64) -> usize {
+    usize::try_from(at).unwrap_or(usize::MAX)
+}
+
+/// A reader of a lent log.
+///
+/// As an iterator it gives the clears and updates and ends after the last; a refusal is given once and
+/// ends it too. [`Reader::read_entry`] gives the end as an entry.
+///
+/// ```
+/// use bitbox::{Entry, LogWriter, Reader};
+///
+/// # fn main() -> Result<(), bitbox::Refusal> {
+/// let mut memory = [0; 4096];
+/// let mut writer = LogWriter::begin(&mut memory, 7)?;
+/// writer.write_clear(3)?;
+/// let log = writer.finish()?;
+///
+/// let reader = Reader::new(log)?;
+/// assert_eq!(reader.sync_seqn(), 7);
+/// let entries: Result<Vec<Entry>, _> = reader.collect();
+/// assert_eq!(entries?, [Entry::Clear { bucket: 3 }]);
+/// # Ok(())
+/// # }
+/// ```
+#[derive(Clone, Debug)]
+pub struct Reader<'a> {
+    log: &'a [u8],
+    at: usize,
+    sync_seqn: u32,
+    over: bool,
+}
+
+impl<'a> Reader<'a> {
+    /// A reader set on a log: it has read the start.
+    ///
+    /// # Errors
+    ///
+    /// In this order: [`LogNotPages`](Refusal::LogNotPages); [`LogCut`](Refusal::LogCut) for an empty
+    /// log; [`NoStart`](Refusal::NoStart).
+    pub fn new(log: &'a [u8]) -> Result<Reader<'a>, Refusal> {
+        let answer = ffi::reader_set(log);
+        said(answer.refusal)?;
+        // A log has the number in four bytes, so it fits.
+        let sync_seqn = u32::try_from(answer.value).unwrap_or(u32::MAX);
+        Ok(Reader { log, at: FIRST_ENTRY, sync_seqn, over: false })
+    }
+
+    /// The sync's number, from the log's start.
+    pub const fn sync_seqn(&self) -> u32 {
+        self.sync_seqn
+    }
+
+    /// Where the next entry stands.
+    pub const fn position(&self) -> usize {
+        self.at
+    }
+
+    /// The next entry, without moving on.
+    ///
+    /// # Errors
+    ///
+    /// Those of [`read_entry`].
+    pub fn peek(&self) -> Result<Entry, Refusal> {
+        read_entry(self.log, self.at).map(|(entry, _)| entry)
+    }
+
+    /// The next entry. At the end and at a refusal the reader stays where it is and answers the same again.
+    ///
+    /// # Errors
+    ///
+    /// Those of the function [`read_entry`].
+    pub fn read_entry(&mut self) -> Result<Entry, Refusal> {
+        let (entry, next) = read_entry(self.log, self.at)?;
+        self.at = next;
+        Ok(entry)
+    }
+}
+
+impl Iterator for Reader<'_> {
+    type Item = Result<Entry, Refusal>;
+
+    fn next(&mut self) -> Option<Self::Item> {
+        if self.over {
+            return None;
+        }
+        let entry = self.read_entry();
+        self.over = matches!(entry, Ok(Entry::End) | Err(_));
+        match entry {
+            Ok(Entry::End) => None,
+            entry => Some(entry),
+        }
+    }
+}
+
+impl FusedIterator for Reader<'_> {}
+
+/// A writer's state, for logs that are written into lent memory call by call. Each call moves it on; a
+/// refused one leaves it.
+///
+/// The capacity is the lent slice rounded down to 4,096 bytes. A record is taken exactly when it and the
+/// end after it fit, so that a log can always be finished in the slice it was written to.
+#[derive(Clone, Copy, Debug, Default, PartialEq, Eq, Hash)]
+pub enum Writer {
+    /// Nothing has begun.
+    #[default]
+    Fresh,
+    /// A log is being written; the next record goes to this position.
+    Open(usize),
+    /// A log of this length is finished.
+    Finished(usize),
+}
+
+impl Writer {
+    pub(crate) fn state(self) -> ffi::WriterState {
+        match self {
+            Writer::Fresh => ffi::WriterState { kind: 0, at: 0 },
+            Writer::Open(at) => ffi::WriterState { kind: 1, at: at as u64 },
+            Writer::Finished(length) => ffi::WriterState { kind: 2, at: length as u64 },
+        }
+    }
+
+    pub(crate) fn of(state: ffi::WriterState) -> Writer {
+        match state.kind {
+            0 => Writer::Fresh,
+            1 => Writer::Open(position(state.at)),
+            // As the boundary has it: any other is finished.
+            _ => Writer::Finished(position(state.at)),
+        }
+    }
+
+    fn moved(&mut self, written: ffi::Written) -> Result<usize, Refusal> {
+        *self = Writer::of(written.writer);
+        said(written.refusal)?;
+        Ok(position(written.length))
+    }
+
+    /// Begins a log, in any state.
+    ///
+    /// # Errors
+    ///
+    /// [`NoRoom`](Refusal::NoRoom): the slice is shorter than 4,096 bytes.
+    pub fn begin(&mut self, log: &mut [u8], sync_seqn: u32) -> Result<(), Refusal> {
+        self.moved(ffi::begin(log, self.state(), sync_seqn)).map(|_| ())
+    }
+
+    /// Writes that a bucket is cleared.
+    ///
+    /// # Errors
+    ///
+    /// In this order: [`WriterNotOpen`](Refusal::WriterNotOpen), [`NoRoom`](Refusal::NoRoom).
+    pub fn write_clear(&mut self, log: &mut [u8], bucket: u64) -> Result<(), Refusal> {
+        self.moved(ffi::write_clear(log, self.state(), bucket)).map(|_| ())
+    }
+
+    /// Writes that a page is changed.
+    ///
+    /// # Errors
+    ///
+    /// In this order: [`WriterNotOpen`](Refusal::WriterNotOpen); [`LengthUnfit`](Refusal::LengthUnfit):
+    /// there are not as many nodes as marks; [`DiffReserved`](Refusal::DiffReserved): bit 126 or 127 is
+    /// set; [`NoRoom`](Refusal::NoRoom).
+    pub fn write_update(&mut self, log: &mut [u8], update: &Update) -> Result<(), Refusal> {
+        let Update { bucket, id, diff, nodes, elided } = update;
+        self.moved(ffi::write_update(log, self.state(), id, *diff, nodes, elided, *bucket)).map(|_| ())
+    }
+
+    /// Finishes the log, which then is the first bytes of the slice, as many as are answered.
+    ///
+    /// # Errors
+    ///
+    /// In this order: [`WriterNotOpen`](Refusal::WriterNotOpen); [`NoRoom`](Refusal::NoRoom), which a slice
+    /// shorter than the one that the records were written to may give.
+    pub fn finish(&mut self, log: &mut [u8]) -> Result<usize, Refusal> {
+        self.moved(ffi::finish(log, self.state()))
+    }
+}
+
+/// A log that is being written into memory that is lent to the end.
+#[derive(Debug)]
+pub struct LogWriter<'a> {
+    log: &'a mut [u8],
+    writer: Writer,
+}
+
+impl<'a> LogWriter<'a> {
+    /// Begins a log.
+    ///
+    /// # Errors
+    ///
+    /// [`NoRoom`](Refusal::NoRoom): the slice is shorter than 4,096 bytes.
+    pub fn begin(log: &'a mut [u8], sync_seqn: u32) -> Result<LogWriter<'a>, Refusal> {
+        let mut writer = Writer::Fresh;
+        writer.begin(log, sync_seqn)?;
+        Ok(LogWriter { log, writer })
+    }
+
+    /// Writes that a bucket is cleared.
+    ///
+    /// # Errors
+    ///
+    /// [`NoRoom`](Refusal::NoRoom).
+    pub fn write_clear(&mut self, bucket: u64) -> Result<(), Refusal> {
+        self.writer.write_clear(self.log, bucket)
+    }
+
+    /// Writes that a page is changed.
+    ///
+    /// # Errors
+    ///
+    /// In this order: [`LengthUnfit`](Refusal::LengthUnfit), [`DiffReserved`](Refusal::DiffReserved),
+    /// [`NoRoom`](Refusal::NoRoom).
+    pub fn write_update(&mut self, update: &Update) -> Result<(), Refusal> {
+        self.writer.write_update(self.log, update)
+    }
+
+    /// Finishes the log and gives it back. There is always room.
+    ///
+    /// # Errors
+    ///
+    /// None that can happen.
+    pub fn finish(mut self) -> Result<&'a [u8], Refusal> {
+        let length = self.writer.finish(self.log)?;
+        // The log starts the slice, and finish answers at most the slice's length.
+        self.log.get(..length).ok_or(Refusal::NoRoom)
+    }
+}

@@ -1,0 +1,70 @@
+//! Replay: a sync's log, taken into the table's image after a stop.
+
+use crate::{ffi, log::position, refusal::said, Refusal};
+
+/// What a replay comes to.
+#[derive(Clone, Copy, Debug, PartialEq, Eq, Hash)]
+pub enum Replayed {
+    /// The log is empty: nothing was to be done.
+    Nothing,
+    /// The log is of another sync: the image is as it was.
+    Stale,
+    /// The log is in the image.
+    Applied,
+}
+
+/// Takes a log into a table's image. The whole log is read before the image is touched. Wherever a replay
+/// stops, another one from there ends in the same image. `hashes` has the hash of each update's page, in
+/// the log's order.
+///
+/// # Errors
+///
+/// In this order: [`TableUnfit`](Refusal::TableUnfit), [`LogNotPages`](Refusal::LogNotPages),
+/// [`NoStart`](Refusal::NoStart); then those of the first bad entry, [`LogCut`](Refusal::LogCut),
+/// [`DiffReserved`](Refusal::DiffReserved), [`TagUnknown`](Refusal::TagUnknown) or
+/// [`BucketOutside`](Refusal::BucketOutside); last [`LengthUnfit`](Refusal::LengthUnfit): there are not as
+/// many hashes as updates.
+pub fn replay(image: &mut [u8], n: usize, log: &[u8], sync_seqn: u32, hashes: &[u64]) -> Result<Replayed, Refusal> {
+    let answer = ffi::replay(image, n, log, sync_seqn, hashes);
+    said(answer.refusal)?;
+    Ok(match answer.value {
+        0 => Replayed::Nothing,
+        1 => Replayed::Stale,
+        // 2; no other value is answered.
+        _ => Replayed::Applied,
+    })
+}
+
+/// What a step of a replay comes to.
+#[derive(Clone, Copy, Debug, PartialEq, Eq, Hash)]
+pub enum Stepped {
+    /// No entry is left.
+    End,
+    /// A clear is in the image.
+    Cleared {
+        /// Where the next entry stands.
+        next: usize,
+    },
+    /// An update is in the image.
+    Updated {
+        /// Where the next entry stands.
+        next: usize,
+    },
+}
+
+/// Takes the entry at a position of a log into a table's image; `hash` is that of an update's page.
+///
+/// # Errors
+///
+/// In this order: [`TableUnfit`](Refusal::TableUnfit); those of the entry, as [`replay`] has them.
+pub fn replay_step(image: &mut [u8], n: usize, log: &[u8], at: usize, hash: u64) -> Result<Stepped, Refusal> {
+    let ffi::Stepped { refusal, kind, next } = ffi::replay_step(image, n, log, at, hash);
+    said(refusal)?;
+    let next = position(next);
+    Ok(match kind {
+        0 => Stepped::End,
+        1 => Stepped::Cleared { next },
+        // 2; no other kind is answered.
+        _ => Stepped::Updated { next },
+    })
+}

@@ -1,0 +1,177 @@
+//! The log's reader and writer.
+
+mod common;
+use bitbox::*;
+use common::*;
+use Refusal::*;
+
+fn update(bucket: u64, slots: &[usize]) -> Update {
+    let d = diff(slots);
+    let from = page(3, &id(9));
+    let nodes = d.pack_changed_nodes(&from).expect("a page");
+    Update { bucket, id: id(9), diff: d, nodes, elided: [3; 8] }
+}
+
+#[test]
+fn a_log_is_written_and_read() {
+    let mut memory = vec![0xEE; 3 * PAGE + 5];
+    let mut writer = LogWriter::begin(&mut memory, 7).expect("room");
+    writer.write_clear(3).expect("room");
+    writer.write_update(&update(9, &[2, 125])).expect("room");
+    let log = writer.finish().expect("room").to_vec();
+    assert_eq!(log.len(), PAGE);
+    assert_eq!(log[..14], [1, 7, 0, 0, 0, 3, 3, 0, 0, 0, 0, 0, 0, 0]);
+    assert_eq!((log[14], log[143]), (4, 2));
+    assert!(log[144..].iter().all(|&b| b == 0));
+    assert!(memory[PAGE..].iter().all(|&b| b == 0xEE), "the rest of the slice is left");
+
+    let mut reader = Reader::new(&log).expect("a log");
+    assert_eq!((reader.sync_seqn(), reader.position()), (7, FIRST_ENTRY));
+    assert_eq!(reader.peek(), Ok(Entry::Clear { bucket: 3 }));
+    assert_eq!(reader.read_entry(), Ok(Entry::Clear { bucket: 3 }));
+    assert_eq!(reader.position(), 14);
+    assert_eq!(reader.read_entry(), Ok(Entry::Update(update(9, &[2, 125]))));
+    for _ in 0..2 {
+        assert_eq!((reader.position(), reader.read_entry()), (143, Ok(Entry::End)));
+    }
+    let all: Vec<_> = Reader::new(&log).expect("a log").collect();
+    assert_eq!(all, [Ok(Entry::Clear { bucket: 3 }), Ok(Entry::Update(update(9, &[2, 125])))]);
+    assert_eq!(read_entry(&log, 5), Ok((Entry::Clear { bucket: 3 }, 14)));
+    assert_eq!(read_entry(&log, 143), Ok((Entry::End, 143)));
+}
+
+#[test]
+fn setting_a_reader_refuses() {
+    let log = clears(1, &[1]);
+    assert_eq!(Reader::new(&log[1..]).err(), Some(LogNotPages));
+    assert_eq!(Reader::new(&log[..PAGE - 1]).err(), Some(LogNotPages));
+    assert_eq!(Reader::new(&[]).err(), Some(LogCut));
+    assert_eq!(Reader::new(&[0; PAGE]).err(), Some(NoStart));
+    assert_eq!(Reader::new(&[2; PAGE]).err(), Some(NoStart));
+}
+
+#[test]
+fn reading_refuses_and_stays() {
+    let good = {
+        let mut memory = vec![0; PAGE];
+        let mut writer = LogWriter::begin(&mut memory, 1).expect("room");
+        writer.write_update(&update(1, &[0])).expect("room");
+        writer.finish().expect("room").to_vec()
+    };
+    let mut unknown = good.clone();
+    unknown[5] = 5;
+    let mut reserved = good.clone();
+    reserved[5 + 1 + 32 + 15] = 0x80;
+    let mut cut = vec![0; PAGE];
+    cut[0] = 1;
+    // Clears up to the last bytes, and no end.
+    for at in (5..PAGE).step_by(9) {
+        cut[at] = 3;
+    }
+    for (log, why, entries) in [(&unknown, TagUnknown, 0), (&reserved, DiffReserved, 0), (&cut, LogCut, 454)] {
+        let mut reader = Reader::new(log).expect("a start");
+        for _ in 0..entries {
+            assert_eq!(reader.read_entry(), Ok(Entry::Clear { bucket: 0 }));
+        }
+        let at = reader.position();
+        for _ in 0..2 {
+            assert_eq!((reader.read_entry(), reader.peek(), reader.position()), (Err(why), Err(why), at));
+        }
+        let all: Vec<_> = Reader::new(log).expect("a start").collect();
+        assert_eq!(all.len(), entries + 1, "the refusal is given once and ends it");
+        assert_eq!(all.last(), Some(&Err(why)));
+    }
+    for at in [PAGE, PAGE + 1, usize::MAX] {
+        assert_eq!(read_entry(&good, at), Err(LogCut), "at {at}");
+    }
+    assert_eq!(read_entry(&good, 0), Err(TagUnknown), "a start is no entry");
+    assert_eq!(read_entry(&[], 0), Err(LogCut));
+}
+
+#[test]
+fn a_writer_s_states() {
+    let mut log = vec![0xEE; PAGE];
+    let mut w = Writer::default();
+    assert_eq!(w, Writer::Fresh);
+    let refused = |w: &mut Writer, log: &mut [u8]| {
+        let before = *w;
+        assert_eq!(leaves(log, |l| w.write_clear(l, 1)), Err(WriterNotOpen));
+        // Not open comes before a wrong count.
+        let bad = Update { nodes: Packed::new(&[]).expect("none"), ..update(1, &[1]) };
+        assert_eq!(leaves(log, |l| w.write_update(l, &bad)), Err(WriterNotOpen));
+        assert_eq!(leaves(log, |l| w.finish(l)), Err(WriterNotOpen));
+        assert_eq!(*w, before, "a refused call leaves the state");
+    };
+    refused(&mut w, &mut log);
+    assert_eq!(w.begin(&mut log, 0x0102_0304), Ok(()));
+    assert_eq!((w, &log[..6]), (Writer::Open(5), &[1, 4, 3, 2, 1, 0xEE][..]));
+    assert_eq!(w.write_clear(&mut log, u64::MAX), Ok(()));
+    assert_eq!(w, Writer::Open(14));
+    assert_eq!(w.begin(&mut log, 2), Ok(()), "in any state");
+    assert_eq!(w.finish(&mut log), Ok(PAGE));
+    assert_eq!(w, Writer::Finished(PAGE));
+    refused(&mut w, &mut log);
+    assert_eq!(w.begin(&mut log, 3), Ok(()));
+    assert_eq!(w, Writer::Open(5));
+}
+
+#[test]
+fn a_writer_refuses_what_does_not_fit() {
+    let mut short = vec![0xEE; PAGE - 1];
+    let mut w = Writer::Finished(8);
+    assert_eq!(leaves(&mut short, |l| w.begin(l, 1)), Err(NoRoom));
+    assert_eq!(w, Writer::Finished(8));
+    assert_eq!(LogWriter::begin(&mut short, 1).err(), Some(NoRoom));
+
+    // 454 clears fit in a page, the next does not; 8,191 bytes are one page.
+    for len in [PAGE, 2 * PAGE - 1] {
+        let mut log = vec![0xEE; len];
+        let mut w = Writer::Fresh;
+        w.begin(&mut log, 1).expect("a page");
+        for _ in 0..454 {
+            assert_eq!(w.write_clear(&mut log, 1), Ok(()));
+        }
+        assert_eq!(leaves(&mut log, |l| w.write_clear(l, 1)), Err(NoRoom));
+        assert_eq!(w, Writer::Open(5 + 9 * 454));
+        assert_eq!(w.finish(&mut log), Ok(PAGE));
+    }
+    let mut log = vec![0xEE; PAGE];
+    let mut writer = LogWriter::begin(&mut log, 1).expect("a page");
+    assert_eq!(writer.write_update(&update(1, &(0..126).collect::<Vec<_>>())), Err(NoRoom));
+    // 5 and 65 + 32c and 1 are at most 4,096 for c up to 125.
+    assert_eq!(writer.write_update(&update(1, &(0..125).collect::<Vec<_>>())), Ok(()));
+    // A state that no call answered.
+    for at in [PAGE, usize::MAX - 1, usize::MAX] {
+        let mut w = Writer::Open(at);
+        assert_eq!(leaves(&mut log, |l| w.write_clear(l, 1)), Err(NoRoom));
+        assert_eq!(leaves(&mut log, |l| w.finish(l)), Err(NoRoom));
+        assert_eq!(w, Writer::Open(at));
+    }
+}
+
+#[test]
+fn a_writer_refuses_bad_updates() {
+    let mut log = vec![0xEE; 2 * PAGE];
+    let mut w = Writer::Fresh;
+    w.begin(&mut log, 1).expect("a page");
+    for count in [0, 1, 3, 127, usize::MAX] {
+        let bad = Update { nodes: Packed::from_table([[1; NODE]; SLOTS], count), ..update(1, &[1, 2]) };
+        assert_eq!(leaves(&mut log, |l| w.write_update(l, &bad)), Err(LengthUnfit), "{count} nodes");
+    }
+    for words in [[0, 1 << 63], [0, 1 << 62], [u64::MAX; 2]] {
+        let d = Diff::from_words(words);
+        // The count comes before the diff.
+        let bad = Update { diff: d, nodes: Packed::from_table([[1; NODE]; SLOTS], 0), ..update(1, &[]) };
+        assert_eq!(leaves(&mut log, |l| w.write_update(l, &bad)), Err(LengthUnfit));
+        let bad = Update { diff: d, nodes: Packed::from_table([[1; NODE]; SLOTS], d.count()), ..update(1, &[]) };
+        assert_eq!(leaves(&mut log, |l| w.write_update(l, &bad)), Err(DiffReserved));
+    }
+    assert_eq!(w, Writer::Open(5));
+    // Nodes beyond the count are ignored.
+    let mut table = [[0xAB; NODE]; SLOTS];
+    table[0] = [7; NODE];
+    let good = Update { nodes: Packed::from_table(table, 1), ..update(1, &[4]) };
+    assert_eq!(w.write_update(&mut log, &good), Ok(()));
+    assert_eq!(w, Writer::Open(5 + 65 + 32));
+    assert!(!log.contains(&0xAB));
+}
