@@ -28,6 +28,7 @@ pub trait Engine {
 
     fn full_tag(hash: u64) -> u8;
     fn kind(tag: u8) -> Kind;
+    fn not_match(tag: u8, hash: u64) -> bool;
     fn set_full(tags: &mut [u8], n: u64, bucket: u64, hash: u64) -> Answer<()>;
     fn set_tombstone(tags: &mut [u8], n: u64, bucket: u64) -> Answer<()>;
     fn full_count(tags: &[u8], n: u64) -> Answer<u64>;
@@ -123,6 +124,10 @@ impl Engine for Model {
 
     fn kind(tag: u8) -> Kind {
         model::tags::kind(tag)
+    }
+
+    fn not_match(tag: u8, hash: u64) -> bool {
+        tag != model::tags::full_tag(hash)
     }
 
     fn set_full(tags: &mut [u8], n: u64, bucket: u64, hash: u64) -> Answer<()> {

@@ -2,8 +2,6 @@
 //! held against each other.
 
 mod engine;
-#[cfg(feature = "ours")]
-mod ffi;
 mod input;
 mod ops;
 #[cfg(feature = "ours")]
@@ -46,12 +44,12 @@ const PARTS: [(&str, Exhaustive, Random, u64); 11] = [
 const USAGE: &str = "\
 compare [--seconds S | --cases C] [--seed N] [--only PART,PART..]
   All short inputs first, then inputs by chance until S seconds have passed or C cases are done
-  (default: 120 seconds). The seed is printed; the same seed gives the same inputs.";
+  (default: 80 seconds). The seed is printed; the same seed gives the same inputs.";
 
 fn main() {
     // An error of the original would else carry a backtrace.
     std::env::set_var("RUST_LIB_BACKTRACE", "0");
-    let mut budget = Budget::Seconds(120);
+    let mut budget = Budget::Seconds(80);
     let mut seed = std::time::UNIX_EPOCH.elapsed().map_or(1, |t| mixed(t.as_nanos() as u64) >> 32);
     let mut only: Option<Vec<String>> = None;
     let mut args = std::env::args().skip(1);

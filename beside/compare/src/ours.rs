@@ -1,13 +1,10 @@
-//! Ours, by the static library that `rt staticlib bitbox` makes: a safe function for each call of
-//! [`Engine`] over the declarations in ffi.rs. No function here decides anything.
+//! Ours, by the safe crate over its static library: each call of [`Engine`] in 01's terms. No function here
+//! decides anything.
 
-use crate::{
-    engine::Engine,
-    ffi::{self, Nodes},
-};
+use crate::engine::Engine;
 use model::{
     audit::Audited,
-    diff::{Diff, Packed, NODE, SLOTS},
+    diff::{Diff, Packed, NODE},
     growth::{Grown, Pending},
     path::{Found, Probed},
     reader::Entry,
@@ -24,239 +21,212 @@ use std::{
 
 pub struct Ours;
 
-fn answer<T>(number: u8, value: impl FnOnce() -> T) -> Answer<T> {
-    match number {
-        0 => Ok(value()),
-        number => Err(Refused(number)),
-    }
+fn why(refusal: bitbox::Refusal) -> Refused {
+    Refused(refusal.number())
 }
 
-fn lo(d: Diff) -> u64 {
-    d.0 as u64
+fn answer<T, U>(said: Result<T, bitbox::Refusal>, told: impl FnOnce(T) -> U) -> Answer<U> {
+    said.map(told).map_err(why)
 }
 
-fn hi(d: Diff) -> u64 {
-    (d.0 >> 64) as u64
+fn ours(d: Diff) -> bitbox::Diff {
+    bitbox::Diff::from_words([d.0 as u64, (d.0 >> 64) as u64])
 }
 
-fn diff(words: [u64; 2]) -> Diff {
-    Diff((words[1] as u128) << 64 | words[0] as u128)
+fn diff(d: bitbox::Diff) -> Diff {
+    let [lo, hi] = d.words();
+    Diff((hi as u128) << 64 | lo as u128)
 }
 
-fn state_words(w: Writer) -> [u64; 2] {
+fn packed(p: &Packed) -> bitbox::Packed {
+    bitbox::Packed::from_table(p.nodes, p.count as usize)
+}
+
+fn our_writer(w: Writer) -> bitbox::Writer {
     match w {
-        Writer::Fresh => [0, 0],
-        Writer::Open(at) => [1, at],
-        Writer::Finished(len) => [2, len],
+        Writer::Fresh => bitbox::Writer::Fresh,
+        Writer::Open(at) => bitbox::Writer::Open(at as usize),
+        Writer::Finished(length) => bitbox::Writer::Finished(length as usize),
     }
 }
 
-fn writer(words: [u64; 2]) -> Writer {
-    match words[0] {
-        0 => Writer::Fresh,
-        1 => Writer::Open(words[1]),
-        _ => Writer::Finished(words[1]),
+fn writer(w: bitbox::Writer) -> Writer {
+    match w {
+        bitbox::Writer::Fresh => Writer::Fresh,
+        bitbox::Writer::Open(at) => Writer::Open(at as u64),
+        bitbox::Writer::Finished(length) => Writer::Finished(length as u64),
     }
 }
 
-fn record(c: &Change) -> ffi::Change {
-    let (kind, place) = match c.place {
-        Place::Known(b) => (0, b),
-        Place::Fresh => (1, 0),
-        Place::Cell(i) => (2, i),
+fn change(c: &Change) -> bitbox::Change {
+    let place = match c.place {
+        Place::Known(b) => bitbox::Where::Known(b),
+        Place::Fresh => bitbox::Where::Fresh,
+        Place::Cell(i) => bitbox::Where::Cell(i as usize),
     };
-    ffi::Change { id: c.id, hash: c.hash, diff: [lo(c.diff), hi(c.diff)], kind, place }
+    bitbox::Change::new(c.id, c.hash, ours(c.diff), place)
 }
 
-/// A name that no answer has: a number out of its range is no answer of 01.
-fn unknown<T>(what: &str, number: u64) -> T {
-    panic!("ours answers {number} as {what}")
+fn our_lent<'a>(lent: &'a mut Lent) -> bitbox::Lent<'a> {
+    bitbox::Lent {
+        n: lent.n as usize,
+        tags: &mut *lent.tags,
+        marks: &mut *lent.marks,
+        cells: &mut *lent.cells,
+        log: &mut *lent.log,
+    }
 }
 
-// SAFETY, for every call below: the declarations are those of the library; a pointer and the length
-// after it are one slice that lives through the call; what is lent as `*mut` comes from a `&mut`; an
-// array has the length that its type says.
+/// The state after a writer's call; a refused call keeps it.
+fn kept<T>(before: Writer, after: bitbox::Writer, said: Result<T, bitbox::Refusal>) -> Answer<(T, Writer)> {
+    if said.is_err() {
+        assert!(writer(after) == before, "a refused call of the writer keeps its state");
+    }
+    answer(said, |value| (value, writer(after)))
+}
+
 impl Engine for Ours {
     fn diff_read(bytes: [u8; 16]) -> Answer<Diff> {
-        let mut out = [0; 2];
-        let said = unsafe { ffi::bitbox_diff_read(&bytes, &mut out) };
-        answer(said, || diff(out))
+        answer(bitbox::Diff::from_bytes(&bytes), diff)
     }
 
     fn diff_bytes(d: Diff) -> [u8; 16] {
-        let mut out = [0; 16];
-        unsafe { ffi::bitbox_diff_bytes(lo(d), hi(d), &mut out) };
-        out
+        ours(d).as_bytes()
     }
 
     fn diff_set(d: Diff, slot: u64) -> Answer<Diff> {
-        let mut out = [0; 2];
-        let said = unsafe { ffi::bitbox_diff_set(lo(d), hi(d), slot, &mut out) };
-        answer(said, || diff(out))
+        answer(ours(d).set_changed(slot as usize), diff)
     }
 
     fn diff_ask(d: Diff, slot: u64) -> Answer<bool> {
-        let mut out = [0];
-        let said = unsafe { ffi::bitbox_diff_ask(lo(d), hi(d), slot, &mut out) };
-        answer(said, || out[0] == 1)
+        answer(ours(d).changed(slot as usize), |marked| marked)
     }
 
     fn diff_set_cleared(d: Diff) -> Diff {
-        let mut out = [0; 2];
-        unsafe { ffi::bitbox_diff_set_cleared(lo(d), hi(d), &mut out) };
-        diff(out)
+        diff(ours(d).set_cleared())
     }
 
     fn diff_cleared(d: Diff) -> bool {
-        unsafe { ffi::bitbox_diff_cleared(lo(d), hi(d)) }
+        ours(d).cleared()
     }
 
     fn diff_count(d: Diff) -> u64 {
-        unsafe { ffi::bitbox_diff_count(lo(d), hi(d)) }
+        ours(d).count() as u64
     }
 
     fn diff_join(a: Diff, b: Diff) -> Diff {
-        let mut out = [0; 2];
-        unsafe { ffi::bitbox_diff_join(lo(a), hi(a), lo(b), hi(b), &mut out) };
-        diff(out)
+        diff(ours(a).join(ours(b)))
     }
 
     fn pack(d: Diff, page: &[u8]) -> Answer<Packed> {
-        let mut nodes: Nodes = [[0xEE; NODE]; SLOTS];
-        let mut out = [0];
-        let said = unsafe { ffi::bitbox_pack(lo(d), hi(d), page.as_ptr(), page.len(), &mut nodes, &mut out) };
-        answer(said, || Packed { nodes, count: out[0] })
+        answer(ours(d).pack_changed_nodes(page), |p| Packed { nodes: *p.table(), count: p.count() as u64 })
     }
 
-    fn unpack(d: Diff, packed: &Packed, page: &mut [u8]) -> Answer<()> {
-        let said =
-            unsafe { ffi::bitbox_unpack(lo(d), hi(d), &packed.nodes, packed.count, page.as_mut_ptr(), page.len()) };
-        answer(said, || ())
+    fn unpack(d: Diff, nodes: &Packed, page: &mut [u8]) -> Answer<()> {
+        answer(ours(d).unpack_changed_nodes(&packed(nodes), page), |()| ())
     }
 
     fn full_tag(hash: u64) -> u8 {
-        unsafe { ffi::bitbox_full_tag(hash) }
+        bitbox::full_tag(hash)
     }
 
     fn kind(tag: u8) -> Kind {
-        match unsafe { ffi::bitbox_tag_kind(tag) } {
-            0 => Kind::Empty,
-            1 => Kind::Tombstone,
-            2 => Kind::Full,
-            3 => Kind::Other,
-            kind => unknown("a tag's kind", kind as u64),
+        match (bitbox::hint_empty(tag), bitbox::hint_tombstone(tag), bitbox::is_full(tag)) {
+            (true, false, false) => Kind::Empty,
+            (false, true, false) => Kind::Tombstone,
+            (false, false, true) => Kind::Full,
+            (false, false, false) => Kind::Other,
+            kinds => panic!("ours says that tag {tag:#x} is of more than one kind: {kinds:?}"),
         }
     }
 
+    fn not_match(tag: u8, hash: u64) -> bool {
+        bitbox::hint_not_match(tag, hash)
+    }
+
     fn set_full(tags: &mut [u8], n: u64, bucket: u64, hash: u64) -> Answer<()> {
-        answer(unsafe { ffi::bitbox_set_full(tags.as_mut_ptr(), tags.len(), n, bucket, hash) }, || ())
+        answer(bitbox::set_full(tags, n as usize, bucket, hash), |()| ())
     }
 
     fn set_tombstone(tags: &mut [u8], n: u64, bucket: u64) -> Answer<()> {
-        answer(unsafe { ffi::bitbox_set_tombstone(tags.as_mut_ptr(), tags.len(), n, bucket) }, || ())
+        answer(bitbox::set_tombstone(tags, n as usize, bucket), |()| ())
     }
 
     fn full_count(tags: &[u8], n: u64) -> Answer<u64> {
-        let mut out = [0];
-        let said = unsafe { ffi::bitbox_full_count(tags.as_ptr(), tags.len(), n, &mut out) };
-        answer(said, || out[0])
+        answer(bitbox::full_count(tags, n as usize), |count| count)
     }
 
     fn padding_is_zero(tags: &[u8], n: u64) -> Answer<bool> {
-        let mut out = [0];
-        let said = unsafe { ffi::bitbox_padding_is_zero(tags.as_ptr(), tags.len(), n, &mut out) };
-        answer(said, || out[0] == 1)
+        answer(bitbox::padding_is_empty(tags, n as usize), |zero| zero)
     }
 
     fn tag_page(bucket: u64) -> u64 {
-        unsafe { ffi::bitbox_tag_page(bucket) }
+        bitbox::tag_page(bucket)
     }
 
     fn tag_pages(n: u64) -> Answer<u64> {
-        let mut out = [0];
-        answer(unsafe { ffi::bitbox_tag_pages(n, &mut out) }, || out[0])
+        answer(bitbox::tag_pages(n as usize), |pages| pages)
     }
 
     fn length(n: u64) -> Answer<u64> {
-        let mut out = [0];
-        answer(unsafe { ffi::bitbox_table_length(n, &mut out) }, || out[0])
+        answer(bitbox::table_length(n as usize), |length| length)
     }
 
     fn page_number(n: u64, bucket: u64) -> Answer<u64> {
-        let mut out = [0];
-        answer(unsafe { ffi::bitbox_page_number(n, bucket, &mut out) }, || out[0])
+        answer(bitbox::page_number(n as usize, bucket), |page| page)
     }
 
     fn probe(tags: &[u8], n: u64, hash: u64, k: u64) -> Answer<Probed> {
-        let mut out = [0; 3];
-        let said = unsafe { ffi::bitbox_probe(tags.as_ptr(), tags.len(), n, hash, k, &mut out) };
-        let [kind, bucket, visit] = out;
-        answer(said, || match kind {
-            0 => Probed::Empty { bucket, visit },
-            1 => Probed::Tombstone { bucket, visit },
-            2 => Probed::Hit { bucket, visit },
-            3 => Probed::Closed,
-            kind => unknown("a probe", kind),
+        answer(bitbox::probe(tags, n as usize, hash, k), |probed| match probed {
+            bitbox::Probed::Empty { bucket, visit } => Probed::Empty { bucket, visit },
+            bitbox::Probed::Tombstone { bucket, visit } => Probed::Tombstone { bucket, visit },
+            bitbox::Probed::Hit { bucket, visit } => Probed::Hit { bucket, visit },
+            bitbox::Probed::Closed => Probed::Closed,
         })
     }
 
     fn lookup(image: &[u8], n: u64, hash: u64, id: &[u8; 32]) -> Answer<Found> {
-        let mut out = [0; 2];
-        let said = unsafe { ffi::bitbox_lookup(image.as_ptr(), image.len(), n, hash, id, &mut out) };
-        answer(said, || match out[0] {
-            0 => Found::Bucket(out[1]),
-            1 => Found::Absent,
-            2 => Found::Closed,
-            kind => unknown("a lookup", kind),
+        answer(bitbox::lookup(image, n as usize, hash, id), |found| match found {
+            bitbox::Found::At(bucket) => Found::Bucket(bucket),
+            bitbox::Found::Absent => Found::Absent,
+            bitbox::Found::Closed => Found::Closed,
         })
     }
 
     fn allocate(tags: &mut [u8], n: u64, hash: u64) -> Answer<u64> {
-        let mut out = [0];
-        let said = unsafe { ffi::bitbox_allocate(tags.as_mut_ptr(), tags.len(), n, hash, &mut out) };
-        answer(said, || out[0])
+        answer(bitbox::allocate(tags, n as usize, hash), |bucket| bucket)
     }
 
     fn reader_set(log: &[u8]) -> Answer<u32> {
-        let mut out = [0];
-        let said = unsafe { ffi::bitbox_reader_set(log.as_ptr(), log.len(), &mut out) };
-        answer(said, || out[0] as u32)
+        answer(bitbox::Reader::new(log), |reader| reader.sync_seqn())
     }
 
     fn reader_next(log: &[u8], at: u64) -> Answer<(Entry, u64)> {
-        let mut id = [0; 32];
-        let mut nodes: Nodes = [[0xEE; NODE]; SLOTS];
-        let mut elided = [0; 8];
-        let mut out = [0; 6];
-        let said =
-            unsafe { ffi::bitbox_reader_next(log.as_ptr(), log.len(), at, &mut id, &mut nodes, &mut elided, &mut out) };
-        let [kind, bucket, low, high, count, next] = out;
-        answer(said, || {
-            let entry = match kind {
-                0 => Entry::End,
-                1 => Entry::Clear { bucket },
-                2 => {
-                    assert!(count <= SLOTS as u64, "ours answers {count} nodes");
-                    let (given, rest) = nodes.split_at(count as usize);
+        answer(bitbox::read_entry(log, at as usize), |(entry, next)| {
+            let entry = match entry {
+                bitbox::Entry::End => Entry::End,
+                bitbox::Entry::Clear { bucket } => Entry::Clear { bucket },
+                bitbox::Entry::Update(u) => {
+                    let (given, rest) = u.nodes.table().split_at(u.nodes.count());
                     assert!(rest.iter().all(|node| *node == [0; NODE]), "nodes from the count on are zero");
-                    Entry::Update { id, diff: diff([low, high]), nodes: given.to_vec(), elided, bucket }
+                    let nodes = given.to_vec();
+                    Entry::Update { id: u.id, diff: diff(u.diff), nodes, elided: u.elided, bucket: u.bucket }
                 }
-                kind => unknown("an entry", kind),
             };
-            (entry, next)
+            (entry, next as u64)
         })
     }
 
     fn begin(log: &mut [u8], w: Writer, sync: u32) -> Answer<Writer> {
-        let mut state = state_words(w);
-        let said = unsafe { ffi::bitbox_begin(log.as_mut_ptr(), log.len(), &mut state, sync) };
-        kept(said, w, state)
+        let mut after = our_writer(w);
+        let said = after.begin(log, sync);
+        kept(w, after, said).map(|((), after)| after)
     }
 
     fn write_clear(log: &mut [u8], w: Writer, bucket: u64) -> Answer<Writer> {
-        let mut state = state_words(w);
-        let said = unsafe { ffi::bitbox_write_clear(log.as_mut_ptr(), log.len(), &mut state, bucket) };
-        kept(said, w, state)
+        let mut after = our_writer(w);
+        let said = after.write_clear(log, bucket);
+        kept(w, after, said).map(|((), after)| after)
     }
 
     fn write_update(
@@ -264,170 +234,90 @@ impl Engine for Ours {
         w: Writer,
         id: &[u8; 32],
         d: Diff,
-        packed: &Packed,
+        nodes: &Packed,
         elided: &[u8; 8],
         bucket: u64,
     ) -> Answer<Writer> {
-        let mut state = state_words(w);
-        let (log, len) = (log.as_mut_ptr(), log.len());
-        let Packed { nodes, count } = packed;
-        let said =
-            unsafe { ffi::bitbox_write_update(log, len, &mut state, id, lo(d), hi(d), nodes, *count, elided, bucket) };
-        kept(said, w, state)
+        let mut after = our_writer(w);
+        let update = bitbox::Update { bucket, id: *id, diff: ours(d), nodes: packed(nodes), elided: *elided };
+        let said = after.write_update(log, &update);
+        kept(w, after, said).map(|((), after)| after)
     }
 
     fn finish(log: &mut [u8], w: Writer) -> Answer<(u64, Writer)> {
-        let mut state = state_words(w);
-        let mut out = [0];
-        let said = unsafe { ffi::bitbox_finish(log.as_mut_ptr(), log.len(), &mut state, &mut out) };
-        kept(said, w, state).map(|after| (out[0], after))
+        let mut after = our_writer(w);
+        let said = after.finish(log);
+        kept(w, after, said).map(|(length, after)| (length as u64, after))
     }
 
-    fn sync_step(lent: &mut Lent, state: State, change: &Change, page: &[u8]) -> Answer<(Step, State)> {
-        let [kind, at] = state_words(state.writer);
-        let mut words = [kind, at, state.occupied];
-        let mut out = [0; 2];
-        let c = record(change);
-        let said = unsafe {
-            ffi::bitbox_sync_step(
-                lent.tags.as_mut_ptr(),
-                lent.tags.len(),
-                lent.n,
-                lent.cells.as_mut_ptr(),
-                lent.cells.len(),
-                lent.marks.as_mut_ptr(),
-                lent.marks.len(),
-                lent.log.as_mut_ptr(),
-                lent.log.len(),
-                &mut words,
-                &c.id,
-                &[c.hash, c.diff[0], c.diff[1], c.kind, c.place],
-                page.as_ptr(),
-                page.len(),
-                &mut out,
-            )
-        };
-        let [kind, at, occupied] = words;
-        answer(said, || (Step { bucket: out[0], page: out[1] }, State { writer: writer([kind, at]), occupied }))
+    fn sync_step(lent: &mut Lent, state: State, c: &Change, page: &[u8]) -> Answer<(Step, State)> {
+        let mut after = bitbox::State { writer: our_writer(state.writer), occupied: state.occupied };
+        let said = bitbox::sync_step(&mut our_lent(lent), &mut after, &change(c), page);
+        let after = State { writer: writer(after.writer), occupied: after.occupied };
+        if said.is_err() {
+            assert!(after == state, "a refused step keeps the state");
+        }
+        answer(said, |step| (Step { bucket: step.bucket, page: step.page }, after))
     }
 
     fn sync(lent: &mut Lent, w: &mut Writer, number: u32, changes: &[Change], pages: &[u8]) -> Synced {
-        let records: Vec<ffi::Change> = changes.iter().map(record).collect();
-        let mut state = state_words(*w);
-        let mut out = [0; 4];
-        let said = unsafe {
-            ffi::bitbox_sync(
-                lent.tags.as_mut_ptr(),
-                lent.tags.len(),
-                lent.n,
-                lent.cells.as_mut_ptr(),
-                lent.cells.len(),
-                lent.marks.as_mut_ptr(),
-                lent.marks.len(),
-                lent.log.as_mut_ptr(),
-                lent.log.len(),
-                &mut state,
-                number,
-                records.as_ptr(),
-                records.len(),
-                pages.as_ptr(),
-                pages.len(),
-                &mut out,
-            )
-        };
-        *w = writer(state);
-        match (said, out[2]) {
-            (0, _) => Synced::Done { occupied: out[0], length: out[1] },
-            (number, 0) => Synced::Refused(Refused(number)),
-            (number, _) => Synced::RefusedAt { change: out[3], why: Refused(number) },
+        let records: Vec<bitbox::Change> = changes.iter().map(change).collect();
+        let mut after = our_writer(*w);
+        let said = bitbox::sync(&mut our_lent(lent), &mut after, number, &records, pages);
+        *w = writer(after);
+        match said {
+            Ok(synced) => Synced::Done { occupied: synced.occupied, length: synced.length as u64 },
+            Err(bitbox::SyncRefused { refusal, change: None }) => Synced::Refused(why(refusal)),
+            Err(bitbox::SyncRefused { refusal, change: Some(change) }) => {
+                Synced::RefusedAt { change: change as u64, why: why(refusal) }
+            }
         }
     }
 
     fn replay(image: &mut [u8], n: u64, log: &[u8], sync: u32, hashes: &[u64]) -> Answer<Replayed> {
-        let mut out = [0];
-        let said = unsafe {
-            ffi::bitbox_replay(
-                image.as_mut_ptr(),
-                image.len(),
-                n,
-                log.as_ptr(),
-                log.len(),
-                sync,
-                hashes.as_ptr(),
-                hashes.len(),
-                &mut out,
-            )
-        };
-        answer(said, || match out[0] {
-            0 => Replayed::Nothing,
-            1 => Replayed::Stale,
-            2 => Replayed::Applied,
-            kind => unknown("a replay", kind),
+        answer(bitbox::replay(image, n as usize, log, sync, hashes), |replayed| match replayed {
+            bitbox::Replayed::Nothing => Replayed::Nothing,
+            bitbox::Replayed::Stale => Replayed::Stale,
+            bitbox::Replayed::Applied => Replayed::Applied,
         })
     }
 
     fn replay_step(image: &mut [u8], n: u64, log: &[u8], at: u64, hash: u64) -> Answer<Stepped> {
-        let mut out = [0; 2];
-        let (image, image_len) = (image.as_mut_ptr(), image.len());
-        let said = unsafe { ffi::bitbox_replay_step(image, image_len, n, log.as_ptr(), log.len(), at, hash, &mut out) };
-        answer(said, || match out[0] {
-            0 => Stepped::End,
-            1 => Stepped::Cleared { next: out[1] },
-            2 => Stepped::Updated { next: out[1] },
-            kind => unknown("a step of a replay", kind),
+        answer(bitbox::replay_step(image, n as usize, log, at as usize, hash), |stepped| match stepped {
+            bitbox::Stepped::End => Stepped::End,
+            bitbox::Stepped::Cleared { next } => Stepped::Cleared { next: next as u64 },
+            bitbox::Stepped::Updated { next } => Stepped::Updated { next: next as u64 },
         })
     }
 
     fn write_marker(old: u32, new: u32) -> Answer<[u8; 16]> {
-        let mut out = [0xEE; 16];
-        answer(unsafe { ffi::bitbox_write_marker(old, new, &mut out) }, || out)
+        answer(bitbox::write_marker(bitbox::Marker { old, new }), |bytes| bytes)
     }
 
     fn read_marker(bytes: &[u8]) -> Answer<(u32, u32)> {
-        let mut out = [0; 2];
-        let said = unsafe { ffi::bitbox_read_marker(bytes.as_ptr(), bytes.len(), &mut out) };
-        answer(said, || (out[0] as u32, out[1] as u32))
+        answer(bitbox::read_marker(bytes), |marker| (marker.old, marker.new))
     }
 
     fn pending(meta: u64, file: u64, old: u64, new: u64) -> Answer<Pending> {
-        let mut out = [0];
-        let said = unsafe { ffi::bitbox_pending(meta, file, old, new, &mut out) };
-        answer(said, || match out[0] {
-            0 => Pending::Tidy,
-            1 => Pending::UpdateMeta,
-            kind => unknown("a pending growth", kind),
+        answer(bitbox::pending(old, new, meta, file), |pending| match pending {
+            bitbox::Pending::Tidy => Pending::Tidy,
+            bitbox::Pending::UpdateMetaThenTidy => Pending::UpdateMeta,
         })
     }
 
     fn grow(old: &[u8], old_n: u64, new: &mut [u8], new_n: u64, hashes: &[u64]) -> Answer<Grown> {
-        let mut out = [0];
-        let said = unsafe {
-            ffi::bitbox_grow(
-                old.as_ptr(),
-                old.len(),
-                old_n,
-                new.as_mut_ptr(),
-                new.len(),
-                new_n,
-                hashes.as_ptr(),
-                hashes.len(),
-                &mut out,
-            )
-        };
-        answer(said, || match out[0] {
-            0 => Grown::NothingToDo,
-            1 => Grown::Grown,
-            kind => unknown("a growth", kind),
+        answer(bitbox::grow(old, old_n as usize, new, new_n as usize, hashes), |grown| match grown {
+            bitbox::Grown::NothingToDo => Grown::NothingToDo,
+            bitbox::Grown::Done => Grown::Grown,
         })
     }
 
     fn audit(image: &[u8], n: u64, hashes: &[u64]) -> Answer<Audited> {
-        let mut out = [0; 2];
-        let mut rate = 0.0;
-        let said = unsafe {
-            ffi::bitbox_audit(image.as_ptr(), image.len(), n, hashes.as_ptr(), hashes.len(), &mut out, &mut rate)
-        };
-        answer(said, || Audited { capacity: out[0], occupied: out[1], rate })
+        answer(bitbox::audit(image, n as usize, hashes), |a| Audited {
+            capacity: a.capacity,
+            occupied: a.occupied,
+            rate: a.rate,
+        })
     }
 
     /// The program `list`, where RUSSULADEN_LIST names it; else 01's lines, so that nothing is compared.
@@ -442,12 +332,4 @@ impl Engine for Ours {
         let said = child.wait_with_output().expect("the program list ends");
         String::from_utf8_lossy(&said.stdout).into_owned()
     }
-}
-
-/// The state after a writer's call; a refused call keeps it.
-fn kept(number: u8, before: Writer, after: [u64; 2]) -> Answer<Writer> {
-    if number != 0 {
-        assert!(after == state_words(before), "a refused call of the writer keeps its state");
-    }
-    answer(number, || writer(after))
 }

@@ -44,9 +44,9 @@ impl Op for TagOp {
             FullTag(hash) => Out::value("tag", &[E::full_tag(*hash) as u64]),
             Hints(tag, hash) => {
                 let kind = E::kind(*tag);
-                let match_ = *tag == E::full_tag(*hash);
+                let not_match = E::not_match(*tag, *hash) as u64;
                 let is = |k| (kind == k) as u64;
-                Out::value("hints", &[is(Kind::Empty), is(Kind::Tombstone), !match_ as u64, is(Kind::Full)])
+                Out::value("hints", &[is(Kind::Empty), is(Kind::Tombstone), not_match, is(Kind::Full)])
             }
             SetFull(t, b, hash) => {
                 let mut tags = t.tag_bytes();
