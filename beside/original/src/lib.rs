@@ -42,6 +42,7 @@ pub mod running;
 mod stage;
 pub mod sync;
 pub mod tags;
+pub mod timed;
 
 pub use caught::{Said, Trouble};
 pub use hash::Seed;
