@@ -13,6 +13,7 @@ use Rattle.probe.specs.Path.{Probe, emptyAt, tombstoneAt, hitAt, closed, Sought
 use Rattle.wal.specs.Reader.{Next}
 use Rattle.wal.specs.declared.Writer.{Writer}
 use Rattle.wal.specs.declared.Writer.the-variants.{Fresh, Open, Finished}
+use Rattle.wal_read.specs.Head.{Seen, aClear, anUpdate, theEnd, aRefusal}
 use Rattle.wal_read.specs.Entry.{Kind, clears, updates, ends, refuses, whatOf, idOf, diffOf, packedOf, elidedOf, nextOf}
 use Rattle.sync.specs.Sync.{SyncSaid, saidDone, saidRefused, saidRefusedAt}
 use Rattle.sync.specs.declared.SyncState.{SyncState}
@@ -30,6 +31,7 @@ use Rattle.bitbox.specs.declared.SyncAnswer.{SyncAnswer}
 use Rattle.bitbox.specs.declared.Stepped.{Stepped}
 use Rattle.bitbox.specs.declared.Marker.{Marker}
 use Rattle.bitbox.specs.declared.Entry.{Entry}
+use Rattle.bitbox.specs.declared.Head.{Head}
 use Rattle.bitbox.specs.declared.Written.{Written}
 use Rattle.bitbox.specs.declared.Audited.{Audited}
 use Rattle.validate.specs.declared.Audit.{Audit}
@@ -110,6 +112,16 @@ pub record Read (n : Next) (at : ℕ) (e : Entry) : Type 0 where
   pub diff-is : e .diff .words ≡ diffOf n
   pub packed-is : e .packed ≡ packedOf n
   pub elided-is : e .elided ≡ elidedOf n
+
+-- an entry seen without its fields, by the same kinds: bucket, count of nodes, where the next one stands
+abbrev pub head : ℕ → ℕ → ℕ → ℕ → ℕ → Head
+head k w b c p = record { refusal = k; kind = w; bucket = b; count = c; next = p }
+
+abbrev pub headWords : Seen → Head
+headWords (aClear b p) = head 0 1 b 0 p
+headWords (anUpdate b c p) = head 0 2 b c p
+headWords theEnd = head 0 0 0 0 0
+headWords (aRefusal k) = head k 0 0 0 0
 
 -- a writer: 0 fresh, 1 open at a position, any other finished with a length
 abbrev pub writerOf : WriterState → Writer

@@ -15,6 +15,7 @@ ghost use Rattle.page_diff.specs.Pack.{packAnswer, packedOf, unpackAnswer, unpa
 ghost use Rattle.probe.specs.Path.{probeAnswer, lookupAnswer, hitLimit, allocateAnswer, allocatedTags, probedSaid, foundSaid, allocatedSaid};
 ghost use Rattle.wal.specs.Reader.{startOf, nextAt};
 ghost use Rattle.wal.specs.Writer.{beginAnswer, beginWriter, beginLog, clearAnswer, updateAnswer, finishAnswer, finishWriter, finishLog};
+ghost use Rattle.wal_read.specs.Head.{headOf, headSaid};
 ghost use Rattle.wal_read.specs.Entry.{whatSaid};
 ghost use Rattle.wal_write.specs.Calls.{clearWriter, clearLog, updateWriter, updateLog};
 ghost use Rattle.sync.specs.Change.{memOf, takenSaid, pageNumber, effectOf, memBy, stateBy};
@@ -24,7 +25,7 @@ ghost use Rattle.rehash.specs.Marker.{writeAnswer as writeMarkerAnswer, written
 ghost use Rattle.rehash.specs.Pending.{pendingAnswer, decisionSaid};
 ghost use Rattle.rehash.specs.Growth.{growthAnswer, growthImage, grownSaid};
 ghost use Rattle.validate.specs.Audit.{auditAnswer, auditedSaid};
-ghost use Rattle.bitbox.specs.Words.{refusalOf, words, outcomeWords, numberWords, truthWords, probeWords, lookupWords, entryRefusal, entryKind, entryBucket, Read, writerOf, writerWords, writtenWords, finishedWords, stateOf, stateWords, stepWords, syncWords, replayWords, wentWords, markerWords, leftWords, growthWords, auditWords, pair};
+ghost use Rattle.bitbox.specs.Words.{refusalOf, words, outcomeWords, numberWords, truthWords, probeWords, lookupWords, entryRefusal, entryKind, entryBucket, Read, headWords, writerOf, writerWords, writtenWords, finishedWords, stateOf, stateWords, stepWords, syncWords, replayWords, wentWords, markerWords, leftWords, growthWords, auditWords, pair};
 use answers::Number;
 use answers::Outcome;
 use answers::Refusal;
@@ -86,6 +87,17 @@ pub struct Entry {
     pub diff: Diff,
     pub packed: Packed,
     pub elided: [u8; 8],
+}
+
+// An entry seen without its fields: 0 end, 1 clear, 2 update; its bucket; the count of its nodes; where the
+// next one stands.
+#[repr(C)]
+pub struct Head {
+    pub refusal: u64,
+    pub kind: u64,
+    pub bucket: u64,
+    pub count: u64,
+    pub next: u64,
 }
 
 // A writer's state: 0 fresh, 1 open at a position, any other finished with a length.
@@ -756,6 +768,52 @@ pub extern "C" fn bitbox_reader_next(log: &[u8], at: usize) -> Entry
         packed,
         elided,
     }
+}
+
+fn of_head(h: wal_read::Head) -> Head
+    ensures { λ r. ⌜ r ≡ headWords (headSaid h) ⌝ }
+{
+    match h {
+        wal_read::Head::Clear { bucket, next } => Head {
+            refusal: 0,
+            kind: 1,
+            bucket,
+            count: 0,
+            next: next as u64,
+        },
+        wal_read::Head::Update {
+            bucket,
+            count,
+            next,
+        } => Head {
+            refusal: 0,
+            kind: 2,
+            bucket,
+            count: count as u64,
+            next: next as u64,
+        },
+        wal_read::Head::End => Head {
+            refusal: 0,
+            kind: 0,
+            bucket: 0,
+            count: 0,
+            next: 0,
+        },
+        wal_read::Head::Refused(why) => Head {
+            refusal: refusal_number(why),
+            kind: 0,
+            bucket: 0,
+            count: 0,
+            next: 0,
+        },
+    }
+}
+
+#[no_mangle]
+pub extern "C" fn bitbox_reader_head(log: &[u8], at: usize) -> Head
+    ensures { λ r. ⌜ r ≡ headWords (headOf (nextAt (now (log .entry)) at)) ⌝ }
+{
+    of_head(wal_read::head_at(log, at))
 }
 
 fn entry_refusal(w: wal_read::What) -> u64

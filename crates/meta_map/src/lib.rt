@@ -2,7 +2,8 @@
 // the tag pages of the table; another length is refused. Questions about a single tag take the byte.
 ghost use mathlib.Core.Path.{_≡_};
 ghost use mathlib.Core.Bool.{not};
-ghost use Prim.Native.Nat.{_/_};
+ghost use Prim.Native.Nat.{_+_, _/_, _≤_};
+ghost use lib.ListN.{length};
 ghost use lib.Dec.{eqb};
 ghost use Rattle.answers.specs.Answers.{outcomeSaid, numberSaid, truthSaid, given};
 ghost use Rattle.meta_map.specs.Tags.{empty, tombstone, full, kindOf, isKind, fullTag, countOf, paddingEmpty, ifTags, writeAnswer, tagWritten};
@@ -16,6 +17,9 @@ pub const EMPTY: u8 = 0x00;
 pub const TOMBSTONE: u8 = 0x7F;
 
 pub const FULL_MASK: u8 = 0x80;
+
+// So many tags are counted in a byte: seven times 32.
+const COUNTED: usize = 224;
 
 // The tag of a bucket that holds a page with this hash.
 pub fn full_entry(hash: u64) -> u8
@@ -81,6 +85,23 @@ fn set_tag(tags: &mut [u8], n: usize, bucket: u64, tag: u8) -> Outcome
     Outcome::Refused(Refusal::TableUnfit)
 }
 
+// How many of the tags from `from` to `to` are full: at most 255, in a byte, so that many are counted at
+// once.
+fn full_between(tags: &[u8], from: usize, to: usize) -> u8
+    requires { ⌜ (from ≤ to) × (to ≤ from + 255) × (to ≤ length (now tags)) ⌝ }
+    ensures { λ r. ⌜ countOf full (now (tags .entry)) to ≡ countOf full (now (tags .entry)) from + r ⌝ }
+{
+    let mut count: u8 = 0;
+    let mut i = from;
+    while i < to {
+        if FULL_MASK <= tags[i] {
+            count += 1;
+        }
+        i += 1;
+    }
+    count
+}
+
 // How many of the n tags are full.
 pub fn full_count(tags: &[u8], n: usize) -> Number
     ensures { λ r. ⌜ numberSaid r ≡ ifTags (now (tags .entry)) n (given (countOf full (now (tags .entry)) n)) ⌝ }
@@ -89,10 +110,12 @@ pub fn full_count(tags: &[u8], n: usize) -> Number
         let mut count: u32 = 0;
         let mut i = 0;
         while i < n {
-            if FULL_MASK <= tags[i] {
-                count += 1;
+            let mut end = n;
+            if COUNTED < n - i {
+                end = i + COUNTED;
             }
-            i += 1;
+            count += full_between(tags, i, end) as u32;
+            i = end;
         }
         return Number::Is(count as u64);
     }

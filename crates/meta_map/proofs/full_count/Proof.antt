@@ -1,19 +1,16 @@
 -- The counter is the count of the tags passed; a fitting table has n tags. Assumes nothing.
-use mathlib.Core.Path.{_≡_, refl, sym, ap₂, _∙_}
-use mathlib.Core.Bool.{Bool, true, false}
+use mathlib.Core.Path.{_≡_, refl, sym, ap, _∙_}
+use mathlib.Core.Bool.{true, false}
 use mathlib.Core.List.{List}
 use mathlib.Core.Logic.{⊎-elim}
-use Prim.Native.Nat.{ℕ, _+_, _-_, _≤_}
-use native.Mathlib.Nat.{add-zero}
+use Prim.Native.Nat.{ℕ, _+_, _-_, _≤_, _<_}
 use native.Mathlib.Omega.{arith}
-use lib.Dec.{leb}
-use lib.ListN.{length, getD}
+use lib.ListN.{length}
 use borrow.Author.Needs.{needs}
-use borrow.Author.Tests.{le-leb, lt-leb}
 use Rattle.ht_file.specs.Places.{tagsFit}
 use Rattle.ht_file.proofs.Laws.{tags-fit-facts}
-use Rattle.meta_map.specs.Tags.{full, one, countOf}
-use Rattle.meta_map.proofs.Laws.{count-suc, count-le, kind-full}
+use Rattle.meta_map.specs.Tags.{full, countOf}
+use Rattle.meta_map.proofs.Laws.{count-le}
 use Rattle.meta_map.proofs.full_count.Statement.{statement}
 use Rattle.meta_map.proofs.full_count.Tie as tie
 
@@ -22,10 +19,6 @@ Inv-loop tags n count₀ i₀ count i = (i ≤ n) × (n ≤ length tags) × (n �
 
 abbrev μ-loop : tie.MeasureT-loop
 μ-loop tags n count₀ i₀ count i = n - i
-
--- the tag looked at counts where it is full
-next : (ts : List ℕ) (i m k : ℕ) (t : Bool) → t ≡ leb 128 (getD ts i 0) → m ≡ countOf full ts i → k ≡ m + one t → k ≡ countOf full ts (i + 1)
-next ts i m k t e p q = q ∙ ap₂ (λ (a : ℕ) (b : Bool). a + one b) p (e ∙ sym (kind-full (getD ts i 0))) ∙ sym (count-suc full ts i)
 
 tags-fit-requires : tie.Need-tags-fit-requires Inv-loop μ-loop
 tags-fit-requires c κs = search needs
@@ -38,37 +31,45 @@ loop-holds c =
     let f = tags-fit-facts (a .n) (length (a .tags .now)) fits in
     (omega arith, omega arith, f .1, refl)
 
-shared-slice-read-if2 : tie.Need-shared-slice-read-if2 Inv-loop μ-loop
-shared-slice-read-if2 c = search needs
+sub-if2 : tie.Need-sub-if2 Inv-loop μ-loop
+sub-if2 c = search needs
+
+add-end : tie.Need-add-end Inv-loop μ-loop
+add-end c = search needs
+
+-- where this round ends: past where it begins, at most 224 on, and not past n
+ends : (c : tie.Joined2 Inv-loop μ-loop)
+    → (c .before .before .loop .i < c .if2 .end) × (c .if2 .end ≤ c .before .before .loop .i + 224) × (c .if2 .end ≤ c .before .before .before .before .before .before .args .n)
+ends c =
+    let t = c .before .loop-test .taken in
+    ⊎-elim
+    (λ w. (omega (arith, w .1, t), omega (arith, w .1), omega (arith, w .1, w .0 .taken)))
+    (λ w. (omega (arith, w .1, t), omega (arith, w .1, w .0 .left, t), omega (arith, w .1)))
+    (c .if2 .came)
+
+full-between-requires : tie.Need-full-between-requires Inv-loop μ-loop
+full-between-requires c κs = let e = ends c in let inv = c .before .before .loop .inv in (omega (arith, e .0), omega (arith, e .1), omega (arith, e .2, inv .1))
+
+cast-count : tie.Need-cast-count Inv-loop μ-loop
+cast-count c = search needs
 
 add-count : tie.Need-add-count Inv-loop μ-loop
 add-count c =
     let at-loop = c .before .before .before in
-    omega (arith, count-le full (at-loop .before .before .before .before .args .tags .now) (at-loop .loop .i))
-
-add-i : tie.Need-add-i Inv-loop μ-loop
-add-i c = search needs
+    let ts = at-loop .before .before .before .before .args .tags .now in
+    let inv = at-loop .loop .inv in
+    omega (arith, c .full-between .ensures, inv .3, inv .2, count-le full ts (c .before .if2 .end), ends (c .before) .2)
 
 loop-less : tie.Need-loop-less Inv-loop μ-loop
-loop-less c = search needs
+loop-less c = let e = ends (c .before) in omega (arith, e .0, e .2)
 
 loop-again : tie.Need-loop-again Inv-loop μ-loop
 loop-again c =
-    let at-loop = c .before .before .before in
-    let ts : List ℕ = at-loop .before .before .before .before .args .tags .now in
-    let i : ℕ = at-loop .loop .i in
-    let inv = at-loop .loop .inv in (
-      omega arith,
-      inv .1,
-      inv .2,
-      ⊎-elim
-          (λ w. next ts i (at-loop .loop .count) (c .if2 .count) true (sym (le-leb 128 _ (w .0 .taken))) (inv .3) (w .1))
-          (λ w. next ts i (at-loop .loop .count) (c .if2 .count) false (sym (lt-leb 128 _ (w .0 .left))) (inv .3) (w .1 ∙ sym (add-zero _)))
-          (c .if2 .came),
-    )
+    let inv = c .before .before .before .loop .inv in
+    (ends (c .before) .2, inv .1, inv .2, ap (λ (k : ℕ). k + c .full-between .result) (inv .3) ∙ sym (c .full-between .ensures))
 
-cast-t10 : tie.Need-cast-t10 Inv-loop μ-loop
-cast-t10 c =
+cast-t12 : tie.Need-cast-t12 Inv-loop μ-loop
+cast-t12 c =
     omega (arith, count-le full (c .before .before .before .before .before .args .tags .now) (c .before .loop .i))
 
 returns : tie.Need-returns Inv-loop μ-loop
@@ -91,11 +92,13 @@ full-count-spec =
     μ-loop
     tags-fit-requires
     loop-holds
-    shared-slice-read-if2
+    sub-if2
+    add-end
+    full-between-requires
+    cast-count
     add-count
-    add-i
     loop-less
     loop-again
-    cast-t10
+    cast-t12
     returns
     returns-2)
