@@ -8,6 +8,7 @@ mod ops;
 mod ours;
 mod rng;
 mod run;
+mod vectors;
 
 use rng::{mixed, Rng};
 use run::{Budget, Op, Out, Run};
@@ -43,8 +44,10 @@ const PARTS: [(&str, Exhaustive, Random, u64); 11] = [
 
 const USAGE: &str = "\
 compare [--seconds S | --cases C] [--seed N] [--only PART,PART..]
+compare vectors
   All short inputs first, then inputs by chance until S seconds have passed or C cases are done
-  (default: 80 seconds). The seed is printed; the same seed gives the same inputs.";
+  (default: 80 seconds). The seed is printed; the same seed gives the same inputs.
+  vectors: prints the sample of the original's answers that the program vectors replays.";
 
 fn main() {
     // An error of the original would else carry a backtrace.
@@ -52,6 +55,11 @@ fn main() {
     let mut budget = Budget::Seconds(80);
     let mut seed = std::time::UNIX_EPOCH.elapsed().map_or(1, |t| mixed(t.as_nanos() as u64) >> 32);
     let mut only: Option<Vec<String>> = None;
+    if std::env::args().skip(1).eq(["vectors"]) {
+        set_hash_seed(&mut Rng(vectors::SEED));
+        vectors::print();
+        return;
+    }
     let mut args = std::env::args().skip(1);
     while let Some(arg) = args.next() {
         let value = args.next();
@@ -77,10 +85,7 @@ fn main() {
     let ours = if cfg!(feature = "ours") { "ours" } else { "ours is not linked" };
     println!("compare --seed {seed}: document 01, the original {checks}, {ours}");
     let mut rng = Rng(seed);
-    let mut hash_seed = [0; 16];
-    hash_seed[..8].copy_from_slice(&rng.next().to_le_bytes());
-    hash_seed[8..].copy_from_slice(&rng.next().to_le_bytes());
-    input::HASH_SEED.set(hash_seed).expect("set once");
+    set_hash_seed(&mut rng);
     run::watch(120);
 
     let mut run = Run::new(budget);
@@ -102,4 +107,12 @@ fn main() {
     }
     run.table();
     std::process::exit((run.differences > 0 || !run.untried().is_empty()) as i32);
+}
+
+/// The seed of the original's page hash, by chance.
+fn set_hash_seed(rng: &mut Rng) {
+    let mut seed = [0; 16];
+    seed[..8].copy_from_slice(&rng.next().to_le_bytes());
+    seed[8..].copy_from_slice(&rng.next().to_le_bytes());
+    input::HASH_SEED.set(seed).expect("set once");
 }

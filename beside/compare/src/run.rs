@@ -226,6 +226,18 @@ fn judged<O: Op>(input: &O::Input) -> Judged {
     Judged { verdict, model, heard, ours }
 }
 
+/// What the original answers, or refuses with an error, where 01 says the same. Ours is not asked.
+pub fn agreed<O: Op>(input: &O::Input) -> Option<Out> {
+    let model = O::run::<Model>(input);
+    match O::original(input, &model) {
+        Heard::Answered(out) if out == model => Some(out),
+        Heard::Refused(error) if model.said.number().is_some_and(|n| numbers(&error).contains(&n)) => {
+            Some(Out { said: model.said, bytes: vec![] })
+        }
+        _ => None,
+    }
+}
+
 /// The smallest input with the same verdict that can be reached by small steps.
 fn shrunk<O: Op>(input: O::Input, verdict: &Verdict) -> O::Input {
     let mut least = input;

@@ -1,0 +1,311 @@
+//! A sample of the original's answers, as lines that the Rattle program `vectors` replays with no Rust at
+//! hand. docs/VECTORS.md says how a line is made. It holds only what the original answers, or refuses with an
+//! error, and document 01 says too; the departures stand in docs/DIFFERENCES.md.
+
+use crate::{
+    input::{hash_at, Bytes, Label, Log, Record, Table, TAGS},
+    ops::{diff, growth, path, places, read, tags},
+    rng::Rng,
+    run::{agreed, Op, Out, Said},
+};
+use model::{diff::Diff, places::length_of, PAGE};
+
+/// The seed of the list that is kept. Another one gives another list of the same kind.
+pub const SEED: u64 = 8;
+
+const WORDS: usize = 8;
+
+/// The answer as a refusal, 0 for none, and what was answered.
+fn heard<O: Op>(input: O::Input) -> Option<(u64, Out)> {
+    let out = agreed::<O>(&input)?;
+    Some((out.said.number().unwrap_or(0) as u64, out))
+}
+
+fn values(out: &Out) -> Vec<u64> {
+    match &out.said {
+        Said::Value(_, values) => values.clone(),
+        _ => vec![],
+    }
+}
+
+fn is(out: &Out, name: &str) -> u64 {
+    matches!(&out.said, Said::Value(said, _) if *said == name) as u64
+}
+
+/// Eight bytes, little-endian; zeros where there are none.
+fn word(bytes: &[u8], at: usize) -> u64 {
+    let mut word = [0; 8];
+    for (to, from) in word.iter_mut().zip(bytes.iter().skip(at)) {
+        *to = *from;
+    }
+    u64::from_le_bytes(word)
+}
+
+fn split(d: Diff) -> [u64; 2] {
+    crate::input::words(d)
+}
+
+/// Prints a line: a name, the operation's number, and words.
+fn line(name: &str, operation: u64, words: &[&[u64]]) {
+    let mut all = vec![operation];
+    all.extend(words.concat());
+    assert!(all.len() <= WORDS && name.len() <= 16, "{name} fits a line");
+    all.resize(WORDS, 0);
+    let words: Vec<String> = all.iter().map(|w| format!("{w:016x}")).collect();
+    println!("{name:<16} {}", words.join(" "));
+}
+
+/// The refusal and two words that are zero where it is refused.
+fn two(number: u64, out: &Out) -> [u64; 3] {
+    match values(out)[..] {
+        [a, b] => [number, a, b],
+        _ => [number, 0, 0],
+    }
+}
+
+fn one(number: u64, out: &Out) -> [u64; 2] {
+    match values(out)[..] {
+        [a] => [number, a],
+        _ => [number, 0],
+    }
+}
+
+fn diffs(rng: &mut Rng) {
+    let mut some = vec![Diff(0), Diff(1), Diff(1 << 63), Diff(1 << 64), Diff((1 << 126) - 1), Diff(1 << 125)];
+    some.extend([Diff(1 << 126), Diff(1 << 127), Diff(3 << 126), Diff(u128::MAX)]);
+    some.extend((0..8).map(|_| crate::input::any_diff(rng)));
+    for (i, &d) in some.iter().enumerate() {
+        let w = split(d);
+        use diff::{DiffOp, Input::*};
+        if let Some((number, out)) = heard::<DiffOp>(Read(d)) {
+            line("diff read", 1, &[&w, &two(number, &out)]);
+        }
+        for slot in [0, 63, 64, 125, rng.below(126)] {
+            if let Some((number, out)) = heard::<DiffOp>(Set(d, slot)) {
+                line("diff set", 2, &[&w, &[slot], &two(number, &out)]);
+            }
+        }
+        for slot in [0, 125, 126, 127, rng.below(128)] {
+            if let Some((number, out)) = heard::<DiffOp>(Ask(d, slot)) {
+                line("diff ask", 3, &[&w, &[slot, number, is(&out, "yes")]]);
+            }
+        }
+        if let Some((_, out)) = heard::<DiffOp>(SetCleared(d)) {
+            line("diff set cleared", 4, &[&w, &values(&out)]);
+        }
+        if let Some((_, out)) = heard::<DiffOp>(Cleared(d)) {
+            line("diff cleared", 5, &[&w, &[is(&out, "yes")]]);
+        }
+        if let Some((_, out)) = heard::<DiffOp>(Count(d)) {
+            line("diff count", 6, &[&w, &values(&out)]);
+        }
+        let other = some[(i + 5) % some.len()];
+        if let Some((_, out)) = heard::<DiffOp>(Join(d, other)) {
+            line("diff join", 7, &[&w, &split(other), &values(&out)]);
+        }
+        if let Some((_, out)) = heard::<DiffOp>(Bytes(d)) {
+            let bytes = &out.bytes[0].1;
+            line("diff bytes", 8, &[&w, &[word(bytes, 0), word(bytes, 8)]]);
+        }
+    }
+}
+
+fn bytes_of_tags(rng: &mut Rng) {
+    use tags::{Input::*, TagOp};
+    let mut hashes = vec![0, (1 << 57) - 1, 1 << 57, 1 << 63, u64::MAX];
+    hashes.extend((0..5).map(|_| rng.next()));
+    for hash in hashes {
+        if let Some((_, out)) = heard::<TagOp>(FullTag(hash)) {
+            line("full tag", 9, &[&[hash], &values(&out)]);
+        }
+        let full = (128 + (hash >> 57)) as u8;
+        for tag in [0, 0x7F, full, full ^ 1, rng.pick(&TAGS)] {
+            if let Some((_, out)) = heard::<TagOp>(Hints(tag, hash)) {
+                line("tag hints", 10, &[&[tag as u64, hash], &values(&out)]);
+            }
+        }
+    }
+    for bucket in [0, 4095, 4096, 8191, 1_048_575, rng.below(1 << 20)] {
+        if let Some((_, out)) = heard::<TagOp>(TagPage(bucket)) {
+            line("tag page", 13, &[&[bucket], &values(&out)]);
+        }
+    }
+}
+
+fn lengths(rng: &mut Rng) {
+    use places::{Input::*, PlaceOp};
+    for n in [1, 2, 4095, 4096, 4097, 8192, 8193, 1_048_575, 1_048_576, rng.within(1, 1 << 20)] {
+        if let (Some((a, pages)), Some((b, length))) = (heard::<PlaceOp>(TagPages(n)), heard::<PlaceOp>(Length(n))) {
+            assert!(a == b);
+            line("places", 11, &[&[n, a], &values(&pages), &values(&length)]);
+        }
+        for bucket in [0, n - 1, rng.below(n)] {
+            if let Some((number, out)) = heard::<PlaceOp>(PageNumber(n, bucket)) {
+                line("page number", 12, &[&[n, bucket], &one(number, &out)]);
+            }
+        }
+    }
+}
+
+/// Tables of up to 8 buckets, whose tags are one word, the first in its lowest byte.
+fn paths(rng: &mut Rng) {
+    use path::{Input::*, PathOp};
+    for round in 0..120 {
+        let n = 1 + round % 8;
+        let style = rng.below(4);
+        let tags: Vec<u8> = (0..n)
+            .map(|_| match style {
+                0 => rng.pick(&TAGS),
+                1 => rng.pick(&[0x80, 0x81, 0x7F]),
+                2 => rng.pick(&[0x80, 0x81, 0x81, 0x01]),
+                _ => rng.pick(&[0x80, 0x00]),
+            })
+            .collect();
+        let table = Table::new(n, &tags);
+        let hash = match rng.below(3) {
+            0 => rng.next(),
+            _ => hash_at(rng.below(2), rng.below(n), n),
+        };
+        let k = rng.below(2 * n);
+        if let Some((0, out)) = heard::<PathOp>(Probe(table.clone(), hash, k)) {
+            let kind = is(&out, "tombstone") + 2 * is(&out, "hit") + 3 * is(&out, "closed");
+            line("probe", 14, &[&[n, word(&tags, 0), hash, k, kind], &values(&out)]);
+        }
+        if let Some((number, out)) = heard::<PathOp>(Allocate(table, Label { hash, free: 1 })) {
+            let after = match out.bytes.first() {
+                Some((_, after)) => word(&after[..n as usize], 0),
+                None => word(&tags, 0),
+            };
+            line("allocate", 15, &[&[n, word(&tags, 0), hash], &one(number, &out), &[after]]);
+        }
+    }
+}
+
+fn logs(rng: &mut Rng) {
+    use read::{Input::*, ReadOp};
+    let update = |diff: u128, rng: &mut Rng| Record::Update {
+        label: Label { hash: rng.next(), free: rng.below(9) },
+        diff: Diff(diff),
+        with: rng.next(),
+        bucket: rng.number(),
+    };
+    let mut logs = vec![
+        Log::new(7, &[Record::Clear(3), update(1 << 9 | 1 << 125, rng), Record::End]),
+        Log::new(0, &[Record::End]),
+        Log::new(u32::MAX, &[update(0, rng), update(1, rng), Record::Clear(u64::MAX), Record::End]),
+        Log::new(1, &[update(1 << 64, rng), Record::Byte(1)]),
+        Log::new(2, &[update(1 << 126, rng), Record::End]),
+        Log::new(3, &[Record::Clear(1), update(1 << 127, rng), Record::End]),
+        Log::new(4, &[Record::Byte(5), Record::End]),
+        Log::new(5, &[Record::Clear(8)]),
+        Log { changed: vec![(0, 3)], ..Log::new(6, &[Record::Clear(8), Record::End]) },
+    ];
+    for _ in 0..6 {
+        let records: Vec<Record> = (0..rng.below(4))
+            .map(|_| match rng.below(3) {
+                0 => Record::Clear(rng.number()),
+                _ => update(1 << rng.below(126) | 1 << rng.below(126), rng),
+            })
+            .chain([Record::End])
+            .collect();
+        logs.push(Log::new(rng.next() as u32, &records));
+    }
+    for log in logs {
+        let bytes = log.bytes();
+        assert!(bytes.len() == PAGE);
+        let used = bytes.iter().rposition(|&b| b != 0).map_or(0, |last| last + 1);
+        // A line at 0 empties the log before.
+        for at in (0..used.max(1)).step_by(48) {
+            let words: Vec<u64> = (0..6).map(|i| word(&bytes, at + 8 * i)).collect();
+            line("log bytes", 17, &[&[at as u64], &words]);
+        }
+        if let Some((number, out)) = heard::<ReadOp>(Set(log.clone())) {
+            line("reader set", 18, &[&[PAGE as u64], &one(number, &out)]);
+        }
+        let cut = Log { cut: Some(PAGE - 1), ..log.clone() };
+        if let Some((number, out)) = heard::<ReadOp>(Set(cut)) {
+            line("reader set", 18, &[&[PAGE as u64 - 1], &one(number, &out)]);
+        }
+        let mut at = model::reader::FIRST;
+        while let Some((number, out)) = heard::<ReadOp>(Next(log.clone(), at)) {
+            let said = values(&out);
+            let (answer, next) = match (number, &said[..]) {
+                (0, [_]) => ([0, 0, 0, at, 0, 0], None),
+                (0, [bucket, next]) => ([0, 1, *bucket, *next, 0, 0], Some(*next)),
+                (0, [bucket, lo, hi, next]) => ([0, 2, *bucket, *next, *lo, *hi], Some(*next)),
+                _ => ([number, 0, 0, at, 0, 0], None),
+            };
+            line("reader next", 19, &[&[at], &answer]);
+            if answer[1] == 2 {
+                parts(at, &out.bytes[0].1);
+            }
+            match next {
+                Some(next) => at = next,
+                None => break,
+            }
+        }
+        // At places where no entry stands.
+        for at in [0, rng.below(used.max(1) as u64), PAGE as u64 - 1, PAGE as u64] {
+            if let Some((number @ 1.., _)) = heard::<ReadOp>(Next(log.clone(), at)) {
+                line("reader next", 19, &[&[at, number, 0, 0, at]]);
+            }
+        }
+    }
+}
+
+/// Words of an update's id, nodes and elided children. The entry's bytes are the position after it, its kind,
+/// id, diff, nodes, elided children and bucket.
+fn parts(at: u64, entry: &[u8]) {
+    let (id, nodes) = (&entry[9..41], &entry[57..entry.len() - 16]);
+    let elided = &entry[entry.len() - 16..];
+    let mut asked = vec![(0, 0, word(id, 0)), (0, 3, word(id, 24)), (2, 0, word(elided, 0))];
+    if let Some(last) = (nodes.len() / 8).checked_sub(1) {
+        asked.extend([(1, 0, word(nodes, 0)), (1, last as u64, word(nodes, 8 * last))]);
+    }
+    for (part, index, word) in asked {
+        line("update part", 20, &[&[at, part, index, word]]);
+    }
+}
+
+fn markers(rng: &mut Rng) {
+    use growth::{GrowthOp, Input::*};
+    for (old, new) in [(4, 8), (0, 1), (u32::MAX - 1, u32::MAX), (1, 1 << 20), (7, rng.within(8, 1 << 31) as u32)] {
+        if let Some((0, out)) = heard::<GrowthOp>(WriteMarker(old, new)) {
+            let bytes = &out.bytes[0].1;
+            line("marker write", 21, &[&[old as u64, new as u64, 0, word(bytes, 0), word(bytes, 8)]]);
+        }
+    }
+    let mut good = b"NOMTRH1\0".to_vec();
+    good.extend([4, 0, 0, 0, 8, 0, 0, 0]);
+    let mut some = vec![good.clone(), good[..15].to_vec(), [&good[..], &[0]].concat(), vec![]];
+    for (at, byte) in [(0, b'n'), (6, b'2'), (7, 1), (8, 8), (8, 7), (12, 4), (12, 5), (11, 1), (15, 0xFF)] {
+        let mut other = good.clone();
+        other[at] = byte;
+        some.push(other);
+    }
+    for bytes in some {
+        if let Some((number, out)) = heard::<GrowthOp>(ReadMarker(Bytes(bytes.clone()))) {
+            let words = [bytes.len() as u64, word(&bytes, 0), word(&bytes, 8)];
+            line("marker read", 22, &[&words, &two(number, &out)]);
+        }
+    }
+    for (old, new) in [(4, 8), (0, 3), (4096, 4097), (1000, 1 << 20)] {
+        for meta in [old, new, old + 1] {
+            for file in [length_of(old), length_of(new), length_of(new) + 1] {
+                if let Some((number, out)) = heard::<GrowthOp>(Pending(meta, file, old, new)) {
+                    line("pending", 23, &[&[old, new, meta, file, number, is(&out, "update meta")]]);
+                }
+            }
+        }
+    }
+}
+
+pub fn print() {
+    let mut rng = Rng(SEED);
+    diffs(&mut rng);
+    bytes_of_tags(&mut rng);
+    lengths(&mut rng);
+    paths(&mut rng);
+    logs(&mut rng);
+    markers(&mut rng);
+}
