@@ -163,7 +163,12 @@ pub fn orderly(rng: &mut Rng, n: u64) -> Table {
 }
 
 pub fn random(run: &mut Run, rng: &mut Rng) {
-    let most = if rng.once_in(400) { 4200 } else { 24 };
+    // Now and then more labels than an audit would look for one by one.
+    let most = match rng.below(400) {
+        0 => 4200,
+        1..=20 => 300,
+        _ => 24,
+    };
     let n = any_count(rng, most);
     let mut table = orderly(rng, n);
     // Then a few things that are not in order.
