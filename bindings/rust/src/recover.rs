@@ -17,6 +17,40 @@ pub enum Replayed {
 /// stops, another one from there ends in the same image. `hashes` has the hash of each update's page, in
 /// the log's order.
 ///
+/// ```
+/// use bitbox::*;
+///
+/// # fn main() -> Result<(), Box<dyn std::error::Error>> {
+/// const N: usize = 8;
+/// let id = [7; 32];
+/// let hash_of = |_id: &PageId| 42; // the service's own hash
+/// let mut page = [1; PAGE];
+/// page[PAGE - 32..].copy_from_slice(&id);
+///
+/// // A sync works on the tags in memory and writes the log; the image stays as it was.
+/// let mut image = vec![0; table_length(N)? as usize];
+/// let mut tags = image[..PAGE * tag_pages(N)? as usize].to_vec();
+/// let (mut marks, mut log, mut writer) = ([0; 1], [0; PAGE], Writer::Fresh);
+/// let changes = [Change::new(id, hash_of(&id), Diff::default().set_changed(3)?, Where::Fresh)];
+/// let mut lent = Lent { n: N, tags: &mut tags, marks: &mut marks, cells: &mut [], log: &mut log };
+/// let synced = sync(&mut lent, &mut writer, 1, &changes, &page)?;
+/// let log = &log[..synced.length];
+///
+/// // After a power cut: the hashes of the log's updates, then the replay.
+/// let mut hashes = vec![];
+/// for entry in Reader::new(log)? {
+///     if let Entry::Update(update) = entry? {
+///         hashes.push(hash_of(&update.id));
+///     }
+/// }
+/// assert_eq!(replay(&mut image, N, log, 1, &hashes)?, Replayed::Applied);
+/// assert_eq!(image[..tags.len()], tags);
+/// assert_eq!(lookup(&image, N, 42, &id)?, Found::At(2));
+/// assert_eq!(audit(&image, N, &[42; N])?.occupied, 1);
+/// # Ok(())
+/// # }
+/// ```
+///
 /// # Errors
 ///
 /// In this order: [`TableUnfit`](Refusal::TableUnfit), [`LogNotPages`](Refusal::LogNotPages),
