@@ -140,6 +140,15 @@ typedef struct {
     uint8_t elided[8];
 } bitbox_entry;
 
+/* An entry seen without its fields: BITBOX_ENTRY_..., its bucket, its nodes, where the next stands. */
+typedef struct {
+    uint64_t refusal;
+    uint64_t kind;
+    uint64_t bucket;
+    uint64_t count;
+    uint64_t next;
+} bitbox_head;
+
 /* A writer's state: BITBOX_WRITER_..., the position or the finished log's length. */
 typedef struct {
     uint64_t kind;
@@ -274,6 +283,8 @@ bitbox_answer bitbox_allocate(uint8_t *tags, size_t tags_len, size_t n, uint64_t
 bitbox_answer bitbox_reader_set(const uint8_t *log, size_t log_len);
 /* The entry at a position. 4, 6, 8. */
 bitbox_entry bitbox_reader_next(const uint8_t *log, size_t log_len, size_t at);
+/* The same without an update's fields. 4, 6, 8. */
+bitbox_head bitbox_reader_head(const uint8_t *log, size_t log_len, size_t at);
 /* Begins a log, in any state. 13. */
 bitbox_written bitbox_begin(uint8_t *log, size_t log_len, bitbox_writer_state w, uint32_t sync_seqn);
 /* Writes that a bucket is cleared. 12, 13. */

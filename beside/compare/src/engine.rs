@@ -14,6 +14,18 @@ use model::{
     Answer,
 };
 
+/// An entry without its fields: 0 end, 1 clear, 2 update; its bucket; the count of its nodes; the position
+/// after it, 0 for end.
+pub type Head = [u64; 4];
+
+pub fn head_of(entry: &Entry, after: u64) -> Head {
+    match entry {
+        Entry::End => [0; 4],
+        Entry::Clear { bucket } => [1, *bucket, 0, after],
+        Entry::Update { bucket, nodes, .. } => [2, *bucket, nodes.len() as u64, after],
+    }
+}
+
 pub trait Engine {
     fn diff_read(bytes: [u8; 16]) -> Answer<Diff>;
     fn diff_bytes(d: Diff) -> [u8; 16];
@@ -45,6 +57,8 @@ pub trait Engine {
 
     fn reader_set(log: &[u8]) -> Answer<u32>;
     fn reader_next(log: &[u8], at: u64) -> Answer<(Entry, u64)>;
+    /// An entry without its fields.
+    fn reader_head(log: &[u8], at: u64) -> Answer<Head>;
 
     fn begin(log: &mut [u8], w: Writer, sync: u32) -> Answer<Writer>;
     fn write_clear(log: &mut [u8], w: Writer, bucket: u64) -> Answer<Writer>;
@@ -180,6 +194,10 @@ impl Engine for Model {
 
     fn reader_next(log: &[u8], at: u64) -> Answer<(Entry, u64)> {
         model::reader::next(log, at)
+    }
+
+    fn reader_head(log: &[u8], at: u64) -> Answer<Head> {
+        model::reader::next(log, at).map(|(entry, after)| head_of(&entry, after))
     }
 
     fn begin(log: &mut [u8], _w: Writer, sync: u32) -> Answer<Writer> {

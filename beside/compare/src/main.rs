@@ -39,7 +39,7 @@ const PARTS: [(&str, Exhaustive, Random, u64); 11] = [
     ("replay", ops::replay::exhaustive, ops::replay::random, 15),
     ("growth", ops::growth::exhaustive, ops::growth::random, 5),
     ("audit", ops::audit::exhaustive, ops::audit::random, 5),
-    ("rounds", ops::rounds::exhaustive, ops::rounds::random, 2),
+    ("rounds", ops::rounds::exhaustive, ops::rounds::random, 1),
 ];
 
 const USAGE: &str = "\

@@ -1,7 +1,7 @@
 //! Ours, by the safe crate over its static library: each call of [`Engine`] in 01's terms. No function here
 //! decides anything.
 
-use crate::engine::Engine;
+use crate::engine::{Engine, Head};
 use model::{
     audit::Audited,
     diff::{Diff, Packed, NODE},
@@ -214,6 +214,14 @@ impl Engine for Ours {
                 }
             };
             (entry, next as u64)
+        })
+    }
+
+    fn reader_head(log: &[u8], at: u64) -> Answer<Head> {
+        answer(bitbox::read_head(log, at as usize), |head| match head {
+            bitbox::Head::End => [0; 4],
+            bitbox::Head::Clear { bucket, next } => [1, bucket, 0, next as u64],
+            bitbox::Head::Update { bucket, count, next } => [2, bucket, count as u64, next as u64],
         })
     }
 

@@ -66,6 +66,18 @@ pub(crate) struct Entry {
     pub(crate) elided: [u8; 8],
 }
 
+/// An entry seen without its fields: 0 end, 1 clear, 2 update; its bucket; the count of its nodes; where the
+/// next one stands.
+#[repr(C)]
+#[derive(Clone, Copy)]
+pub(crate) struct Head {
+    pub(crate) refusal: u64,
+    pub(crate) kind: u64,
+    pub(crate) bucket: u64,
+    pub(crate) count: u64,
+    pub(crate) next: u64,
+}
+
 /// A writer's state: 0 fresh, 1 open at a position, any other finished with a length.
 #[repr(C)]
 #[derive(Clone, Copy)]
@@ -187,6 +199,7 @@ mod library {
 
         pub(super) fn bitbox_reader_set(log: *const u8, log_len: usize) -> Answer;
         pub(super) fn bitbox_reader_next(log: *const u8, log_len: usize, at: usize) -> Entry;
+        pub(super) fn bitbox_reader_head(log: *const u8, log_len: usize, at: usize) -> Head;
         pub(super) fn bitbox_begin(log: *mut u8, log_len: usize, w: WriterState, sync_seqn: u32) -> Written;
         pub(super) fn bitbox_write_clear(log: *mut u8, log_len: usize, w: WriterState, bucket: u64) -> Written;
         pub(super) fn bitbox_write_update(log: *mut u8, log_len: usize, w: WriterState, id: &[u8; 32], lo: u64, hi: u64, nodes: &[[u8; 32]; 126], count: usize, elided: &[u8; 8], bucket: u64) -> Written;
@@ -334,6 +347,10 @@ pub(crate) fn reader_next(log: &[u8], at: usize) -> Entry {
     unsafe { library::bitbox_reader_next(log.as_ptr(), log.len(), at) }
 }
 
+pub(crate) fn reader_head(log: &[u8], at: usize) -> Head {
+    unsafe { library::bitbox_reader_head(log.as_ptr(), log.len(), at) }
+}
+
 pub(crate) fn begin(log: &mut [u8], w: WriterState, sync_seqn: u32) -> Written {
     unsafe { library::bitbox_begin(log.as_mut_ptr(), log.len(), w, sync_seqn) }
 }
@@ -467,6 +484,7 @@ mod layout {
         laid_out!(Probed: 32, 8; refusal 0, kind 8, bucket 16, visit 24);
         laid_out!(Found: 24, 8; refusal 0, kind 8, bucket 16);
         laid_out!(Entry: 4128, 8; refusal 0, kind 8, bucket 16, next 24, id 32, diff 64, packed 80, elided 4120);
+        laid_out!(Head: 40, 8; refusal 0, kind 8, bucket 16, count 24, next 32);
         laid_out!(WriterState: 16, 8; kind 0, at 8);
         laid_out!(Written: 32, 8; refusal 0, length 8, writer 16);
         laid_out!(StepState: 32, 8; n 0, writer 8, occupied 24);

@@ -67,6 +67,47 @@ pub fn read_entry(log: &[u8], at: usize) -> Result<(Entry, usize), Refusal> {
     Ok((entry, position(e.next)))
 }
 
+/// An entry of a log without an update's fields: enough to go along a log and to see which buckets it names.
+#[derive(Clone, Copy, Debug, PartialEq, Eq, Hash)]
+pub enum Head {
+    /// A bucket was cleared.
+    Clear {
+        /// The bucket.
+        bucket: u64,
+        /// Where the next entry stands.
+        next: usize,
+    },
+    /// A page was changed.
+    Update {
+        /// The page's bucket.
+        bucket: u64,
+        /// How many nodes changed.
+        count: usize,
+        /// Where the next entry stands.
+        next: usize,
+    },
+    /// The log is over.
+    End,
+}
+
+/// The entry that stands at a position of a log, without an update's fields: no node is copied. It takes and
+/// refuses what [`read_entry`] does.
+///
+/// # Errors
+///
+/// Those of [`read_entry`].
+pub fn read_head(log: &[u8], at: usize) -> Result<Head, Refusal> {
+    let ffi::Head { refusal, kind, bucket, count, next } = ffi::reader_head(log, at);
+    said(refusal)?;
+    let next = position(next);
+    Ok(match kind {
+        0 => Head::End,
+        1 => Head::Clear { bucket, next },
+        // 2; no other kind is answered.
+        _ => Head::Update { bucket, count: position(count), next },
+    })
+}
+
 /// A position as a usize, which has the same 64 bits on every machine that the library is for.
 pub(crate) fn position(at: u64) -> usize {
     usize::try_from(at).unwrap_or(usize::MAX)

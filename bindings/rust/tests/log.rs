@@ -38,6 +38,9 @@ fn a_log_is_written_and_read() {
     assert_eq!(all, [Ok(Entry::Clear { bucket: 3 }), Ok(Entry::Update(update(9, &[2, 125])))]);
     assert_eq!(read_entry(&log, 5), Ok((Entry::Clear { bucket: 3 }, 14)));
     assert_eq!(read_entry(&log, 143), Ok((Entry::End, 143)));
+    assert_eq!(read_head(&log, 5), Ok(Head::Clear { bucket: 3, next: 14 }));
+    assert_eq!(read_head(&log, 14), Ok(Head::Update { bucket: 9, count: 2, next: 143 }));
+    assert_eq!(read_head(&log, 143), Ok(Head::End));
 }
 
 #[test]
@@ -76,6 +79,7 @@ fn reading_refuses_and_stays() {
         let at = reader.position();
         for _ in 0..2 {
             assert_eq!((reader.read_entry(), reader.peek(), reader.position()), (Err(why), Err(why), at));
+            assert_eq!(read_head(log, at), Err(why));
         }
         let all: Vec<_> = Reader::new(log).expect("a start").collect();
         assert_eq!(all.len(), entries + 1, "the refusal is given once and ends it");
@@ -83,6 +87,7 @@ fn reading_refuses_and_stays() {
     }
     for at in [PAGE, PAGE + 1, usize::MAX] {
         assert_eq!(read_entry(&good, at), Err(LogCut), "at {at}");
+        assert_eq!(read_head(&good, at), Err(LogCut), "at {at}");
     }
     assert_eq!(read_entry(&good, 0), Err(TagUnknown), "a start is no entry");
     assert_eq!(read_entry(&[], 0), Err(LogCut));

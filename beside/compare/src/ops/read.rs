@@ -1,7 +1,7 @@
 //! wal/read.rs: the reader, and the program that reads off a log.
 
 use crate::{
-    engine::Engine,
+    engine::{head_of, Engine, Head},
     input::{any_diff, good_diff, smaller_number, words, Label, Log, Record},
     rng::Rng,
     run::{Heard, Op, Out, Run},
@@ -52,6 +52,14 @@ fn plain(entry: o::Entry) -> Entry {
         o::Entry::Update { id, diff, nodes, elided, bucket } => {
             Entry::Update { id, diff: Diff((diff[1] as u128) << 64 | diff[0] as u128), nodes, elided, bucket }
         }
+    }
+}
+
+/// A head or its refusal, as bytes.
+fn head_bytes(head: model::Answer<Head>) -> Vec<u8> {
+    match head {
+        Ok(words) => words.into_iter().flat_map(u64::to_le_bytes).collect(),
+        Err(why) => vec![why.0],
     }
 }
 
@@ -110,7 +118,11 @@ impl Op for ReadOp {
     fn run<E: Engine>(input: &Input) -> Out {
         match input {
             Set(log) => Out::of(E::reader_set(&log.bytes()), |sync| Out::value("sync", &[sync as u64])),
-            Next(log, at) => Out::of(E::reader_next(&log.bytes(), *at), |(entry, after)| entry_out(&entry, after)),
+            Next(log, at) => {
+                let log = log.bytes();
+                let head = head_bytes(E::reader_head(&log, *at));
+                Out::of(E::reader_next(&log, *at), |(entry, after)| entry_out(&entry, after)).with("head", head)
+            }
             Walk(log) => {
                 let log = log.bytes();
                 let sync = match E::reader_set(&log) {
@@ -123,13 +135,19 @@ impl Op for ReadOp {
                     match E::reader_next(&log, at) {
                         Ok((entry, after)) => {
                             walked.extend(entry_bytes(&entry, after));
+                            walked.extend(head_bytes(E::reader_head(&log, at)));
                             if entry == Entry::End {
                                 let again = E::reader_next(&log, after) == Ok((Entry::End, after));
                                 return Out::value("end", &[at, again as u64]).with("walk", walked);
                             }
                             at = after;
                         }
-                        Err(why) => return Out::refused(why).with("walk", walked),
+                        Err(why) => {
+                            if E::reader_head(&log, at) != Err(why) {
+                                walked.extend(b"another head");
+                            }
+                            return Out::refused(why).with("walk", walked);
+                        }
                     }
                 }
             }
@@ -150,7 +168,9 @@ impl Op for ReadOp {
             Set(log) => Heard::of(o::Reader::new(&log.bytes()), |r| Out::value("sync", &[r.sync_seqn() as u64])),
             Next(log, at) => {
                 let mut reader = o::Reader::at(&log.bytes(), *at as usize);
-                Heard::of(original_next(&mut reader, *at), |(entry, after)| entry_out(&entry, after))
+                Heard::of(original_next(&mut reader, *at), |(entry, after)| {
+                    entry_out(&entry, after).with("head", head_bytes(Ok(head_of(&entry, after))))
+                })
             }
             Walk(log) => {
                 let log = log.bytes();
@@ -166,6 +186,7 @@ impl Op for ReadOp {
                     match original_next(&mut reader, at) {
                         Ok((entry, after)) => {
                             walked.extend(entry_bytes(&entry, after));
+                            walked.extend(head_bytes(Ok(head_of(&entry, after))));
                             if entry == Entry::End {
                                 return Heard::Answered(Out::value("end", &[at, 1]).with("walk", walked));
                             }
