@@ -4,7 +4,7 @@ use crate::{
     clock::{row, timed, Row},
     inputs::{diff, Rng},
 };
-use bitbox::{read_entry, Entry, Packed, Update, Writer, FIRST_ENTRY, PAGE};
+use bitbox::{read_entry, see_entry, Entry, EntryRef, Packed, Update, Writer, FIRST_ENTRY, PAGE};
 use original::{log, timed as theirs};
 use std::hint::black_box;
 
@@ -86,14 +86,34 @@ pub fn log(rng: &mut Rng) -> Vec<Row> {
         rows.push(row(format!("write update, {count} slots"), ENTRIES, 25, ours, original));
         let log = memory[..length].to_vec();
         assert!(builder.bytes() == log);
-        rows.push(read(&log, count, ENTRIES));
+        rows.extend(read(&log, count, ENTRIES));
     }
     rows
 }
 
-fn read(log: &[u8], count: usize, entries: usize) -> Row {
+/// Reading a log to its end: lent out of the log, as the original's user would, and by value.
+fn read(log: &[u8], count: usize, entries: usize) -> [Row; 2] {
     let mut reader = log::Reader::new(log).expect("a log");
-    let ours = || {
+    let mut original = || {
+        reader.put(FIRST_ENTRY);
+        timed(|| loop {
+            if let log::Entry::End = black_box(&reader.read_entry().expect("an entry")) {
+                break;
+            }
+        })
+        .0
+    };
+    let seen = || {
+        timed(|| {
+            let mut at = FIRST_ENTRY;
+            while let (EntryRef::Update(update), next) = see_entry(black_box(log), at).expect("an entry") {
+                black_box(&update);
+                at = next;
+            }
+        })
+        .0
+    };
+    let taken = || {
         timed(|| {
             let mut at = FIRST_ENTRY;
             loop {
@@ -106,14 +126,8 @@ fn read(log: &[u8], count: usize, entries: usize) -> Row {
         })
         .0
     };
-    let original = || {
-        reader.put(FIRST_ENTRY);
-        timed(|| loop {
-            if let log::Entry::End = black_box(&reader.read_entry().expect("an entry")) {
-                break;
-            }
-        })
-        .0
-    };
-    row(format!("read entry, {count} slots"), entries, 25, ours, original)
+    [
+        row(format!("read entry, {count} slots, lent"), entries, 25, seen, &mut original),
+        row(format!("read entry, {count} slots, by value"), entries, 25, taken, &mut original),
+    ]
 }

@@ -46,10 +46,13 @@ pub fn sync_and_replay(count: usize, repeats: usize, rng: &mut Rng) -> [Row; 2] 
         })
         .collect();
     let (mut log, mut length, mut log_of_theirs) = (vec![0; (count + 2) * PAGE], 0, vec![]);
+    // The original is given pages that have just been copied, so ours is too.
+    let mut lent_pages = pages.clone();
     let ours = || {
+        lent_pages.copy_from_slice(&pages);
         let (mut tags, mut marks) = (table.tags.clone(), vec![0; table.tags.len() / PAGE]);
         let mut lent = Lent { n: table.n, tags: &mut tags, marks: &mut marks, cells: &mut [], log: &mut log };
-        let (took, said) = timed(|| sync(&mut lent, &mut Writer::Fresh, 1, &mine, &pages));
+        let (took, said) = timed(|| sync(&mut lent, &mut Writer::Fresh, 1, &mine, &lent_pages));
         length = said.expect("the sync is taken").length;
         took
     };

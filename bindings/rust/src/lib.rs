@@ -64,7 +64,10 @@ mod validate;
 pub use change::{sync, sync_step, Change, Lent, State, Step, SyncRefused, Synced, Where, UNSET};
 pub use diff::{Diff, Node, Packed, NODE, SLOTS};
 pub use growth::{grow, pending, read_marker, write_marker, Grown, Marker, Pending};
-pub use log::{read_entry, read_head, Elided, Entry, Head, LogWriter, PageId, Reader, Update, Writer, FIRST_ENTRY};
+pub use log::{
+    read_entry, read_head, see_entry, Elided, Entry, EntryRef, Head, LogWriter, PageId, Reader, Update, UpdateRef,
+    Writer, FIRST_ENTRY,
+};
 pub use path::{allocate, lookup, probe, Found, Probed};
 pub use recover::{replay, replay_step, Replayed, Stepped};
 pub use refusal::Refusal;

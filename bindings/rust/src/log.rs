@@ -1,7 +1,7 @@
 //! The log of a sync: its reader and its writer.
 
 use crate::{
-    diff::{Diff, Packed},
+    diff::{Diff, Node, Packed, NODE},
     ffi,
     refusal::said,
     Refusal,
@@ -106,6 +106,75 @@ pub fn read_head(log: &[u8], at: usize) -> Result<Head, Refusal> {
         // 2; no other kind is answered.
         _ => Head::Update { bucket, count: position(count), next },
     })
+}
+
+/// An [`Update`] that stays in its log: nothing of it is copied.
+#[derive(Clone, Copy, Debug, PartialEq, Eq)]
+pub struct UpdateRef<'a> {
+    /// The page's bucket.
+    pub bucket: u64,
+    /// The page's id.
+    pub id: &'a PageId,
+    /// The slots that changed.
+    pub diff: Diff,
+    /// The page's elided children.
+    pub elided: &'a Elided,
+    nodes: &'a [u8],
+}
+
+impl<'a> UpdateRef<'a> {
+    /// The nodes of the slots that changed, in the slots' order.
+    pub fn nodes(&self) -> impl Iterator<Item = &'a Node> + use<'a> {
+        self.nodes.chunks_exact(NODE).filter_map(<[u8]>::first_chunk)
+    }
+
+    /// How many nodes it has.
+    pub const fn count(&self) -> usize {
+        self.nodes.len() / NODE
+    }
+
+    /// The update at a position, of so many nodes; the library has seen that the log holds it.
+    fn at(log: &'a [u8], at: usize, bucket: u64, count: usize) -> Option<UpdateRef<'a>> {
+        let (_mark, rest) = log.get(at..)?.split_first()?;
+        let (id, rest) = rest.split_first_chunk()?;
+        let (lo, rest) = rest.split_first_chunk()?;
+        let (hi, rest) = rest.split_first_chunk()?;
+        let (nodes, rest) = rest.split_at_checked(NODE * count)?;
+        let elided = rest.first_chunk()?;
+        let diff = Diff::from_words([u64::from_le_bytes(*lo), u64::from_le_bytes(*hi)]);
+        Some(UpdateRef { bucket, id, diff, elided, nodes })
+    }
+}
+
+/// An [`Entry`] that stays in its log.
+#[derive(Clone, Copy, Debug, PartialEq, Eq)]
+pub enum EntryRef<'a> {
+    /// A bucket was cleared.
+    Clear {
+        /// The bucket.
+        bucket: u64,
+    },
+    /// A page was changed.
+    Update(UpdateRef<'a>),
+    /// The log is over.
+    End,
+}
+
+/// What [`read_entry`] gives, lent out of the log and not copied: the faster way.
+///
+/// # Errors
+///
+/// Those of [`read_entry`].
+pub fn see_entry(log: &[u8], at: usize) -> Result<(EntryRef<'_>, usize), Refusal> {
+    match read_head(log, at)? {
+        Head::End => Ok((EntryRef::End, at)),
+        Head::Clear { bucket, next } => Ok((EntryRef::Clear { bucket }, next)),
+        // An update that is answered is in the log.
+        Head::Update { bucket, count, next } => match UpdateRef::at(log, at, bucket, count) {
+            Some(update) => Ok((EntryRef::Update(update), next)),
+            None => Err(Refusal::LogCut),
+        },
+    }
 }
 
 /// A position as a usize, which has the same 64 bits on every machine that the library is for.

@@ -180,3 +180,46 @@ fn a_writer_refuses_bad_updates() {
     assert_eq!(w, Writer::Open(5 + 65 + 32));
     assert!(!log.contains(&0xAB));
 }
+
+/// The entry with all that it lends copied.
+fn copied(entry: EntryRef<'_>) -> Entry {
+    match entry {
+        EntryRef::End => Entry::End,
+        EntryRef::Clear { bucket } => Entry::Clear { bucket },
+        EntryRef::Update(u) => {
+            let nodes: Vec<Node> = u.nodes().copied().collect();
+            assert_eq!(nodes.len(), u.count());
+            let nodes = Packed::new(&nodes).expect("at most 126");
+            Entry::Update(Update { bucket: u.bucket, id: *u.id, diff: u.diff, nodes, elided: *u.elided })
+        }
+    }
+}
+
+#[test]
+fn an_entry_seen_is_the_entry_read() {
+    let mut memory = vec![0; PAGE];
+    let mut writer = LogWriter::begin(&mut memory, 7).expect("room");
+    writer.write_clear(3).expect("room");
+    writer.write_update(&update(9, &[2, 64, 125])).expect("room");
+    writer.write_update(&update(u64::MAX, &[])).expect("room");
+    let good = writer.finish().expect("room").to_vec();
+    let same = |log: &[u8], at: usize| {
+        assert_eq!(see_entry(log, at).map(|(entry, next)| (copied(entry), next)), read_entry(log, at), "at {at}");
+    };
+    // At every position, at every length, and with each of the first bytes changed.
+    for at in 0..PAGE + 2 {
+        same(&good, at);
+        same(&good[..at.min(300)], FIRST_ENTRY);
+    }
+    for change in 0..300 {
+        let mut log = good.clone();
+        log[change] ^= 1 << (change % 8);
+        for at in [5, 14, 14 + 65 + 96] {
+            same(&log, at);
+        }
+    }
+    assert_eq!(see_entry(&good, 14).map(|(_, next)| next), Ok(175));
+    for at in [PAGE, PAGE + 1, usize::MAX] {
+        assert_eq!(see_entry(&good, at), Err(LogCut));
+    }
+}
