@@ -186,11 +186,13 @@ impl Store {
         fs::read(self.path("log"))
     }
 
-    /// Puts bytes into a file, and waits until they are there.
+    /// Makes a file anew, whole or not at all: the bytes are on disk before the file has its name.
     fn put(&self, name: &str, bytes: &[u8]) -> io::Result<()> {
-        let mut file = File::create(self.path(name))?;
+        let mut file = File::create(self.path("new"))?;
         file.write_all(bytes)?;
-        file.sync_all()
+        file.sync_all()?;
+        fs::rename(self.path("new"), self.path(name))?;
+        File::open(&self.folder)?.sync_all()
     }
 
     /// A sync up to the point from which nothing can be lost: its log and then its number are on disk. What is

@@ -76,3 +76,8 @@ pub use table::{
     set_tombstone, table_length, tag_page, tag_pages, EMPTY, MOST_BUCKETS, PAGE, TOMBSTONE,
 };
 pub use validate::{audit, Audit};
+
+/// The guide, whose code the tests run.
+#[cfg(doctest)]
+#[doc = include_str!("../../../docs/GUIDE.md")]
+struct Guide;

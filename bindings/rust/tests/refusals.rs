@@ -1,4 +1,4 @@
-//! The refusals: as the library's own sources and docs/ANSWERS.md have them.
+//! The refusals: as the library's own sources, docs/ANSWERS.md and docs/GUIDE.md have them.
 
 use bitbox::Refusal;
 use std::error::Error;
@@ -28,6 +28,19 @@ fn sentences_are_the_document_s() {
     for r in Refusal::ALL {
         let row = format!("| {} | `{}` | {} |", r.number(), r.name(), r.explanation());
         assert!(document.lines().any(|l| l == row), "docs/ANSWERS.md has no row {row}");
+    }
+}
+
+#[test]
+fn the_guide_has_a_row_for_each() {
+    let guide = include_str!("../../../docs/GUIDE.md");
+    for r in Refusal::ALL {
+        let start = format!("| {} | `{}` | ", r.number(), r.name());
+        let rows: Vec<&str> = guide.lines().filter_map(|l| l.strip_prefix(start.as_str())).collect();
+        assert_eq!(rows.len(), 1, "rows in docs/GUIDE.md for {r:?}");
+        // When it is given, and what to do about it.
+        let said: Vec<&str> = rows[0].split('|').map(str::trim).filter(|s| !s.is_empty()).collect();
+        assert_eq!(said.len(), 2, "docs/GUIDE.md on {r:?}: {said:?}");
     }
 }
 

@@ -81,3 +81,12 @@ fn threads_on_tables_of_their_own() {
         assert!(*image == alone[i % 4].0, "thread {i}: as it is alone");
     }
 }
+
+/// As docs/GUIDE.md says of a thread's stack. The audit's frame alone is half of it.
+#[test]
+fn half_a_mebibyte_of_stack_is_enough() {
+    let small = std::thread::Builder::new().stack_size(512 * 1024).spawn(|| rounds(0)).expect("a thread");
+    let (image, full) = small.join().expect("a thread ends well");
+    assert_eq!(full, 24);
+    assert!(image == rounds(0).0, "as with a large stack");
+}
