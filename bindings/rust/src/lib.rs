@@ -17,6 +17,9 @@
 //!   [`probe`], [`allocate`], [`sync`] and the functions of single tags are lent these.
 //! - A **log** is what a sync writes and a replay reads: [`Reader`], [`LogWriter`].
 //!
+//! docs/GUIDE.md in the repository has a sync and a recovery with files from start to end, and what to do
+//! about each refusal.
+//!
 //! ```
 //! use bitbox::{sync, Change, Diff, Lent, Where, Writer, PAGE, UNSET};
 //!
