@@ -202,11 +202,7 @@ impl Store {
         let tag_page_count = tag_pages(BUCKETS)? as usize;
         let mut tags = image[..PAGE * tag_page_count].to_vec();
         let mut marks = vec![0; tag_page_count];
-        // Cell i has the bucket of edit i: set for a page that is there, unset for a new one.
-        let mut cells = vec![UNSET; edits.len()];
-        for (cell, edit) in cells.iter_mut().zip(edits) {
-            *cell = lookup(&image, BUCKETS, hash_of(&edit.id), &edit.id)?.bucket().unwrap_or(UNSET);
-        }
+        let mut cells = cells_for(&image, edits)?;
         let change = |(i, e): (usize, &Edit)| Change::new(e.id, hash_of(&e.id), e.diff, Where::Cell(i));
         let changes: Vec<Change> = edits.iter().enumerate().map(change).collect();
         let pages: Vec<u8> = edits.iter().flat_map(|e| e.page.iter().copied()).collect();
@@ -239,16 +235,21 @@ impl Store {
 
     /// What a service does when it starts: the log is replayed onto the table in memory.
     fn recover(&self) -> Outcome<Recovery> {
-        let mut number = [0; 4];
-        number.copy_from_slice(&fs::read(self.path("number"))?);
+        let number = u32::from_le_bytes(fs::read(self.path("number"))?.as_slice().try_into()?);
         let (log, before) = (self.log()?, self.table()?);
         let hashes = hashes_of(&log);
         let mut after = before.clone();
-        let answer = replay(&mut after, BUCKETS, &log, u32::from_le_bytes(number), &hashes)?;
+        let answer = replay(&mut after, BUCKETS, &log, number, &hashes)?;
         let pages = before.chunks(PAGE).zip(after.chunks(PAGE)).enumerate();
         let pages = pages.filter(|(_, (b, a))| b != a).map(|(i, (_, a))| (i, a.to_vec())).collect();
         Ok(Recovery { answer, hashes: hashes.len(), pages })
     }
+}
+
+/// A cell for each edit: the bucket of a page that is there, unset for a new one.
+fn cells_for(image: &[u8], edits: &[Edit]) -> Outcome<Vec<u64>> {
+    let bucket = |e: &Edit| Ok(lookup(image, BUCKETS, hash_of(&e.id), &e.id)?.bucket().unwrap_or(UNSET));
+    edits.iter().map(bucket).collect()
 }
 
 /// Bytes that are enough for the log of so many edits: the start, each an update of all slots, and the end.
