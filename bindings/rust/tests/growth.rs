@@ -130,3 +130,40 @@ fn the_audit_refuses() {
     i[..5].iter_mut().filter(|t| **t == 0).for_each(|t| *t = TOMBSTONE);
     assert_eq!(audit(&i, 5, &[0; 5]), Err(NotReached));
 }
+
+/// A table of 4,096 buckets, which has no padding, grows by one bucket and one tag page: the full buckets are
+/// carried over by their hashes, tombstones and other tags are not.
+#[test]
+fn growth_and_audit_across_a_tag_page() {
+    let (n, new_n) = (4096, 4097);
+    let mut old = image(n);
+    let mut hashes = vec![0; n];
+    for k in 0..40u8 {
+        let bucket = 100 * u64::from(k);
+        let hash = u64::from(k) << 57 | bucket;
+        put(&mut old, n, bucket, hash, &page(k, &id(k)));
+        hashes[bucket as usize] = hash;
+    }
+    assert_eq!(audit(&old, n, &hashes).map(|a| (a.capacity, a.occupied)), Ok((4096, 40)));
+    old[50] = TOMBSTONE;
+    old[4095] = 1;
+    let mut new = vec![0xFF; image(new_n).len()];
+    assert_eq!(grow(&old, n, &mut new, new_n, &hashes), Ok(Grown::Done));
+    assert_eq!(full_count(&new[..tags_of(new_n)], new_n), Ok(40));
+    let mut expected = image(new_n);
+    let mut new_hashes = vec![0; new_n];
+    for k in 0..40u8 {
+        let hash = hashes[100 * usize::from(k)];
+        let bucket = hash % new_n as u64;
+        assert_eq!(lookup(&new, new_n, hash, &id(k)), Ok(Found::At(bucket)));
+        put(&mut expected, new_n, bucket, hash, &page(k, &id(k)));
+        new_hashes[bucket as usize] = hash;
+    }
+    assert!(new == expected, "every byte of the new image");
+    assert_eq!(audit(&new, new_n, &new_hashes).map(|a| a.occupied), Ok(40));
+    // A byte after the tags of 4,097 buckets is padding; 4,096 buckets have none.
+    new[4097] = 1;
+    assert_eq!(audit(&new, new_n, &new_hashes), Err(PaddingUsed));
+    old[4095] = 0x80;
+    assert_eq!(audit(&old, n, &hashes), Err(EmptyFirst));
+}
