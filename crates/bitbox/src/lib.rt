@@ -17,7 +17,7 @@ ghost use Rattle.wal.specs.Reader.{startOf, nextAt};
 ghost use Rattle.wal.specs.Writer.{beginAnswer, beginWriter, beginLog, clearAnswer, updateAnswer, finishAnswer, finishWriter, finishLog};
 ghost use Rattle.wal_read.specs.Head.{headOf, headSaid};
 ghost use Rattle.wal_read.specs.Entry.{whatSaid};
-ghost use Rattle.wal_write.specs.Calls.{clearWriter, clearLog, updateWriter, updateLog};
+ghost use Rattle.wal_write.specs.Calls.{clearWriter, clearLog, updateWriter, updateLog, packIntoAnswer, packedInto};
 ghost use Rattle.sync.specs.Change.{memOf, takenSaid, pageNumber, effectOf, memBy, stateBy};
 ghost use Rattle.sync.specs.Sync.{syncSays, syncWriter, syncMem, syncedSaid};
 ghost use Rattle.recover.specs.Replay.{replayAnswer, replayImage, stepAnswer, stepImage, recoveredSaid, steppedSaid};
@@ -608,6 +608,13 @@ pub extern "C" fn bitbox_pack(lo: u64, hi: u64, page: &[u8]) -> PackAnswer
         refusal: refusal_of(outcome),
         packed,
     }
+}
+
+#[no_mangle]
+pub extern "C" fn bitbox_pack_into(lo: u64, hi: u64, page: &[u8], nodes: &mut [u8]) -> Answer
+    ensures { λ r. ⌜ (r ≡ numberWords (packIntoAnswer (pair lo hi) (now (page .entry)) (now (nodes .entry)))) × (now (nodes .exit) ≡ packedInto (pair lo hi) (now (page .entry)) (now (nodes .entry))) ⌝ }
+{
+    of_number(wal_write::pack_into(nodes, diff(lo, hi), page))
 }
 
 #[no_mangle]

@@ -1,7 +1,7 @@
 -- The laws of little-endian numbers, of a block read, of bytes put and of a tabulated list, over any width. Assumes nothing.
 use mathlib.Core.Path.{_≡_, refl, sym, ap, ap₂, _∙_, subst}
 use mathlib.Core.Bool.{Bool, true, false, cond}
-use mathlib.Core.List.{List, [], _∷_, _++_, append-assoc}
+use mathlib.Core.List.{List, [], _∷_, _++_, append-assoc, append-nil}
 use mathlib.Core.Logic.{_⊎_, ⊎-elim}
 use Prim.Native.Nat.{ℕ, zero, suc, _+_, _-_, _*_, _/_, _%_, _^_, _≤_, _<_}
 use native.Mathlib.Nat.{mod-one, mod-eq-of-lt, pow-suc, one-le-pow, lt-of-not-le}
@@ -270,3 +270,15 @@ put-append s at bs cs h =
     ∙ drop-drop (length cs) (at + length bs) s ∙ ap (λ (n : ℕ). drop n s) e)
     ∙ ap (λ (l : List ℕ). l ++ drop (at + length (bs ++ cs)) s) (append-assoc (take at s) bs cs)
     ∙ sym (put-fits s at (bs ++ cs) (omega arith))
+
+-- bytes put over the whole of a part
+pub put-whole : (s bs : List ℕ) → length s ≡ length bs → put s 0 bs ≡ bs
+put-whole s bs e =
+    put-fits s 0 bs (omega arith) ∙ ap (λ (l : List ℕ). bs ++ l) (drop-of-length-le s {i = 0 + length bs} (omega arith)) ∙ append-nil bs
+
+-- two blocks that fill a part
+pub put-both : (s a b : List ℕ) (k : ℕ) → k ≡ length a → length s ≡ length a + length b → put (put s 0 a) k b ≡ a ++ b
+put-both s a b k e f =
+    let place : k ≡ 0 + length a = omega arith in
+    let sum : length s ≡ length (a ++ b) = f ∙ sym (length-append a b) in
+    ap (λ (p : ℕ). put (put s 0 a) p b) place ∙ put-append s 0 a b (omega arith) ∙ put-whole s (a ++ b) sum

@@ -9,25 +9,13 @@ use lib.ListN.{length, getD, set, take, drop, length-append, length-drop, drop-o
 use lib.Seq.{set-split, append-snoc, length-take-le}
 use native.Mathlib.Numerals.{add-one}
 use Rattle.blocks.specs.Blocks.{put}
-use Rattle.blocks.proofs.Laws.{put-fits, put-append}
+use Rattle.blocks.proofs.Laws.{put-fits}
 
 -- one byte written where there is one
 pub one-set : (l : List ℕ) (v : ℕ) → length l ≡ 1 → set l 0 v ≡ v ∷ []
 one-set [] v e = absurd (omega arith)
 one-set (x ∷ []) v e = refl
 one-set (x ∷ y ∷ l) v e = absurd (omega arith)
-
--- bytes put over the whole of a part
-pub put-whole : (s bs : List ℕ) → length s ≡ length bs → put s 0 bs ≡ bs
-put-whole s bs e =
-    put-fits s 0 bs (omega arith) ∙ ap (λ (l : List ℕ). bs ++ l) (drop-of-length-le s {i = 0 + length bs} (omega arith)) ∙ append-nil bs
-
--- two blocks that fill a part
-pub put-both : (s a b : List ℕ) (k : ℕ) → k ≡ length a → length s ≡ length a + length b → put (put s 0 a) k b ≡ a ++ b
-put-both s a b k e f =
-    let place : k ≡ 0 + length a = omega arith in
-    let sum : length s ≡ length (a ++ b) = f ∙ sym (length-append a b) in
-    ap (λ (p : ℕ). put (put s 0 a) p b) place ∙ put-append s 0 a b (omega arith) ∙ put-whole s (a ++ b) sum
 
 -- a part that comes back as other bytes of the same length: they are put there
 pub part-put : (a e : ℕ) (s bs : List ℕ) → a ≤ e → e ≤ length s → length bs ≡ e - a → putMid a (e - a) s bs ≡ put s a bs

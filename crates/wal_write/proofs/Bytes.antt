@@ -1,18 +1,18 @@
 -- A record that is put part by part is put whole: its mark, the parts after it, the nodes one by one, zeros one by one. Assumes nothing.
 use mathlib.Core.Path.{_≡_, refl, sym, ap, ap₂, _∙_, subst}
 use mathlib.Core.List.{List, [], _∷_, _++_, map, append-assoc, append-nil}
-use Prim.Native.Nat.{ℕ, suc, _+_, _-_, _*_, _≤_, _<_}
+use Prim.Native.Nat.{ℕ, zero, suc, _+_, _-_, _*_, _≤_, _<_}
 use native.Mathlib.Nat.{lt-of-not-le}
 use native.Mathlib.Decide.{decLe}
 use native.Mathlib.Numerals.{add-one}
 use native.Mathlib.Omega.{arith}
-use lib.ListN.{length, getD, set, take, drop, replicate, length-append, length-map, length-replicate, getD-replicate, take-append-drop, List·getD-map, List·getD-eq-default}
+use lib.ListN.{length, getD, set, take, drop, replicate, length-append, length-map, length-replicate, getD-replicate, replicate-append-replicate, take-append-drop, List·getD-map, List·getD-eq-default}
 use lib.Seq.{set-split, append-snoc, take-suc, take-length}
 use Rattle.blocks.specs.Blocks.{bytesOf, put}
 use Rattle.blocks.proofs.Laws.{block-length, put-fits, put-length, put-append}
 use Rattle.blocks.proofs.Copy.{Put, put-turn}
 use Rattle.page_diff.specs.Diff.{bytesOfWords}
-use Rattle.page_diff.specs.Pack.{nodeAt}
+use Rattle.page_diff.specs.Pack.{nodeAt, tableOf}
 use Rattle.wal.specs.Log.{clear, update, mark, flat, recordOf}
 
 -- ---- parts one after the other
@@ -125,3 +125,20 @@ pub zeros-turn : (s : List ℕ) (at n : ℕ) (t : List ℕ) (i : ℕ) → Put s 
 zeros-turn s at n t i inv l h =
     let long : length (replicate {A = ℕ} n 0) ≡ n = length-replicate n 0 in
     subst (λ (x : ℕ). Put s at (replicate n 0) (set t (at + i) x) (i + 1)) (getD-replicate n i 0 0 l) (put-turn s at (replicate n 0) t i inv (omega arith) (omega arith))
+
+-- ---- a packed table, node after node: the nodes, then zeros
+flat-append : (ns ms : List (List ℕ)) → flat (ns ++ ms) ≡ flat ns ++ flat ms
+unfolding flat
+flat-append [] ms = refl
+flat-append (n ∷ ns) ms = ap (λ (l : List ℕ). n ++ l) (flat-append ns ms) ∙ sym (append-assoc n (flat ns) (flat ms))
+
+flat-zeros : (k : ℕ) → flat (replicate k (replicate 32 0)) ≡ replicate (32 * k) 0
+unfolding flat
+flat-zeros zero = refl
+flat-zeros (suc k) = ap (λ (l : List ℕ). replicate 32 0 ++ l) (flat-zeros k) ∙ replicate-append-replicate 32 (32 * k) 0 ∙ ap (λ (m : ℕ). replicate m 0) {x = 32 + 32 * k} {y = 32 * suc k} (omega arith)
+
+pub table-bytes : (page ss : List ℕ) → flat (tableOf page ss) ≡ flat (map (nodeAt page) ss) ++ replicate (32 * (126 - length ss)) 0
+unfolding tableOf
+table-bytes page ss =
+    flat-append (map (nodeAt page) ss) (replicate (126 - length ss) (replicate 32 0))
+    ∙ ap (λ (l : List ℕ). flat (map (nodeAt page) ss) ++ l) (flat-zeros (126 - length ss))

@@ -3,3 +3,4 @@ pub mod CallLaws
 pub mod WriterLaws
 pub mod PageUpdates
 pub mod Examples
+pub mod Packing

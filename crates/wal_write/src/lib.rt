@@ -14,7 +14,7 @@ ghost use Rattle.page_diff.specs.Diff.{slots, countOf, reserved, bytesOfWords};
 ghost use Rattle.page_diff.specs.Pack.{nodeAt};
 ghost use Rattle.wal.specs.Log.{clear, mark, flat, recordOf, clearSize};
 ghost use Rattle.wal.specs.Writer.{beginAnswer, beginWriter, beginLog, clearAnswer, updateAnswer, finishAnswer, finishWriter, finishLog};
-ghost use Rattle.wal_write.specs.Calls.{roomIn, clearWriter, clearLog, updateWriter, updateLog, pageUpdateAnswer, pageUpdateWriter, pageUpdateLog};
+ghost use Rattle.wal_write.specs.Calls.{roomIn, clearWriter, clearLog, updateWriter, updateLog, pageUpdateAnswer, pageUpdateWriter, pageUpdateLog, packIntoAnswer, packedInto};
 use answers::Number;
 use answers::Outcome;
 use answers::Refusal;
@@ -29,6 +29,9 @@ const NODES_AT: usize = 49;
 
 // The bytes after its nodes.
 const TAIL_SIZE: usize = 16;
+
+// The bytes of a table of 126 nodes.
+const TABLE_SIZE: usize = 4032;
 
 // Where a page has its elided children.
 const ELIDED_AT: usize = 4056;
@@ -256,6 +259,28 @@ fn put_zeros(log: &mut [u8], at: usize, n: usize)
         log[at + i] = 0;
         i += 1;
     }
+}
+
+// Packs the nodes of a page's marked slots into lent memory of 126 nodes, zeros after them, and answers
+// their count: what `pack_changed_nodes` answers by value, with no table between. Refused: a page that is not
+// 4,096 bytes (2), bit 126 or 127 (4), memory that is not 4,032 bytes (2).
+pub fn pack_into(nodes: &mut [u8], d: Diff, page: &[u8]) -> Number
+    ensures { λ r. ⌜ (numberSaid r ≡ packIntoAnswer (d .words) (now (page .entry)) (now (nodes .entry))) × (now (nodes .exit) ≡ packedInto (d .words) (now (page .entry)) (now (nodes .entry))) ⌝ }
+{
+    if page.len() != wal::PAGE_SIZE {
+        return Number::Refused(Refusal::LengthUnfit);
+    }
+    if page_diff::is_reserved(d) {
+        return Number::Refused(Refusal::DiffReserved);
+    }
+    if nodes.len() != TABLE_SIZE {
+        return Number::Refused(Refusal::LengthUnfit);
+    }
+    let count = page_diff::count(d);
+    let used = 32 * count;
+    put_page_nodes(nodes, 0, d, page);
+    put_zeros(nodes, used, TABLE_SIZE - used);
+    Number::Is(count as u64)
 }
 
 // Ends the log, with zeros up to the next page, and answers its length: 12, 13. The slice past that

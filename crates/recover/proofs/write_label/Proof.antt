@@ -1,5 +1,5 @@
 -- The elided children and the page id fill the part. Assumes nothing.
-use Rattle.recover.proofs.Parts.{put-both}
+use Rattle.blocks.proofs.Laws.{put-both}
 use Rattle.blocks.specs.Blocks.{put}
 use native.Mathlib.Omega.{arith}
 use Prim.Native.Nat.{ℕ}

@@ -1,5 +1,5 @@
 -- The part is the slot, and the node fills it. Assumes nothing.
-use Rattle.recover.proofs.Parts.{put-whole}
+use Rattle.blocks.proofs.Laws.{put-whole}
 use mathlib.Core.Path.{sym, _∙_}
 use borrow.Author.Needs.{needs}
 use Rattle.recover.proofs.write_node.Statement.{statement}
