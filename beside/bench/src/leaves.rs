@@ -4,29 +4,40 @@ use crate::{
     clock::{row, timed, Row},
     inputs::{diff, Rng},
 };
-use bitbox::{read_entry, see_entry, Entry, EntryRef, Packed, Update, Writer, FIRST_ENTRY, PAGE};
+use bitbox::{read_entry, see_entry, Entry, EntryRef, Packed, Update, Writer, FIRST_ENTRY, NODE, PAGE};
 use original::{log, timed as theirs};
 use std::hint::black_box;
 
 const SLOTS: [usize; 5] = [1, 8, 32, 63, 126];
 const TIMES: usize = 20_000;
 
+/// Packing into a lent table, and by value.
 pub fn pack(rng: &mut Rng) -> Vec<Row> {
     let page = rng.many(PAGE);
-    SLOTS
-        .map(|count| {
-            let words = rng.slots(count);
-            let ours = || {
-                timed(|| {
-                    for _ in 0..TIMES {
-                        black_box(black_box(diff(words)).pack_changed_nodes(black_box(&page))).expect("a page");
-                    }
-                })
-                .0
-            };
-            row(format!("pack, {count} slots"), TIMES, 15, ours, || theirs::pack(words, &page, TIMES))
-        })
-        .into()
+    let mut rows = vec![];
+    for count in SLOTS {
+        let words = rng.slots(count);
+        let mut table = [[0xEE; NODE]; 126];
+        let into = || {
+            timed(|| {
+                for _ in 0..TIMES {
+                    black_box(black_box(diff(words)).pack_into(black_box(&page), black_box(&mut table))).expect("a page");
+                }
+            })
+            .0
+        };
+        rows.push(row(format!("pack, {count} slots, lent"), TIMES, 15, into, || theirs::pack(words, &page, TIMES)));
+        let by_value = || {
+            timed(|| {
+                for _ in 0..TIMES {
+                    black_box(black_box(diff(words)).pack_changed_nodes(black_box(&page))).expect("a page");
+                }
+            })
+            .0
+        };
+        rows.push(row(format!("pack, {count} slots, by value"), TIMES, 15, by_value, || theirs::pack(words, &page, TIMES)));
+    }
+    rows
 }
 
 pub fn unpack(rng: &mut Rng) -> Vec<Row> {

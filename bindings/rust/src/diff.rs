@@ -1,6 +1,6 @@
 //! The slots of a page that changed.
 
-use crate::{ffi, refusal::said, Refusal};
+use crate::{ffi, log::position, refusal::said, Refusal};
 use std::fmt;
 
 /// The slots of a page.
@@ -100,6 +100,18 @@ impl Diff {
         let answer = ffi::pack(self, page);
         said(answer.refusal)?;
         Ok(answer.packed)
+    }
+
+    /// The same into a lent table, zero after the nodes: how many there are. No table is moved, so it is the
+    /// faster way; a refusal leaves the table.
+    ///
+    /// # Errors
+    ///
+    /// Those of [`pack_changed_nodes`](Diff::pack_changed_nodes).
+    pub fn pack_into(self, page: &[u8], nodes: &mut [Node; SLOTS]) -> Result<usize, Refusal> {
+        let answer = ffi::pack_into(self, page, nodes.as_flattened_mut());
+        said(answer.refusal)?;
+        Ok(position(answer.value))
     }
 
     /// Puts nodes at the marked slots of a page, in rising order.

@@ -177,6 +177,7 @@ mod library {
         pub(super) fn bitbox_diff_count(lo: u64, hi: u64) -> usize;
         pub(super) fn bitbox_diff_join(lo: u64, hi: u64, lo2: u64, hi2: u64) -> Diff;
         pub(super) fn bitbox_pack(lo: u64, hi: u64, page: *const u8, page_len: usize) -> PackAnswer;
+        pub(super) fn bitbox_pack_into(lo: u64, hi: u64, page: *const u8, page_len: usize, nodes: *mut u8, nodes_len: usize) -> Answer;
         pub(super) fn bitbox_unpack(lo: u64, hi: u64, nodes: &[[u8; 32]; 126], count: usize, page: *mut u8, page_len: usize) -> Answer;
 
         pub(super) fn bitbox_full_tag(hash: u64) -> u8;
@@ -268,6 +269,11 @@ pub(crate) fn diff_join(a: Diff, b: Diff) -> Diff {
 pub(crate) fn pack(diff: Diff, page: &[u8]) -> PackAnswer {
     let [lo, hi] = diff.words();
     unsafe { library::bitbox_pack(lo, hi, page.as_ptr(), page.len()) }
+}
+
+pub(crate) fn pack_into(d: Diff, page: &[u8], nodes: &mut [u8]) -> Answer {
+    let [lo, hi] = d.words();
+    unsafe { library::bitbox_pack_into(lo, hi, page.as_ptr(), page.len(), nodes.as_mut_ptr(), nodes.len()) }
 }
 
 pub(crate) fn unpack(diff: Diff, nodes: &[Node; SLOTS], count: usize, page: &mut [u8]) -> Answer {

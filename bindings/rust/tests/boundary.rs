@@ -77,7 +77,7 @@ fn lowered((name, ty): &(String, String)) -> Vec<(String, String)> {
 #[test]
 fn the_library_exports_what_is_known() {
     assert_eq!(exported().len(), LIBRARY.matches("#[no_mangle]").count());
-    assert_eq!(exported().len(), 42, "a new function wants a declaration, a safe call, a line in the header and tests");
+    assert_eq!(exported().len(), 43, "a new function wants a declaration, a safe call, a line in the header and tests");
 }
 
 #[test]

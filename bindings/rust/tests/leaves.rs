@@ -178,3 +178,27 @@ fn places() {
         assert_eq!(tag_page(bucket), at);
     }
 }
+
+#[test]
+fn packing_into_a_table_is_packing() {
+    let from = page(7, &id(1));
+    for words in
+        [[0, 0], [1, 0], [u64::MAX, (1 << 62) - 1], [1 << 63, 1], [0x5555, 1 << 61], [0, 1 << 62], [3, 1 << 63]]
+    {
+        let d = Diff::from_words(words);
+        for from in [&from[..], &from[..PAGE - 1], &[]] {
+            let mut table = [[0xEE; NODE]; SLOTS];
+            let said = d.pack_into(from, &mut table);
+            match d.pack_changed_nodes(from) {
+                Ok(packed) => {
+                    assert_eq!(said, Ok(packed.count()));
+                    assert!(table == *packed.table(), "every byte, those after the nodes too: {words:?}");
+                }
+                Err(why) => {
+                    assert_eq!(said, Err(why));
+                    assert!(table == [[0xEE; NODE]; SLOTS], "a refusal leaves the table");
+                }
+            }
+        }
+    }
+}
