@@ -58,6 +58,26 @@ fn writer(w: bitbox::Writer) -> Writer {
     }
 }
 
+/// An entry that is lent out of its log, copied.
+fn seen((entry, next): (bitbox::EntryRef<'_>, usize)) -> (bitbox::Entry, usize) {
+    let entry = match entry {
+        bitbox::EntryRef::End => bitbox::Entry::End,
+        bitbox::EntryRef::Clear { bucket } => bitbox::Entry::Clear { bucket },
+        bitbox::EntryRef::Update(u) => {
+            let nodes: Vec<[u8; NODE]> = u.nodes().copied().collect();
+            let nodes = bitbox::Packed::new(&nodes).expect("at most 126 nodes");
+            bitbox::Entry::Update(bitbox::Update {
+                bucket: u.bucket,
+                id: *u.id,
+                diff: u.diff,
+                nodes,
+                elided: *u.elided,
+            })
+        }
+    };
+    (entry, next)
+}
+
 fn change(c: &Change) -> bitbox::Change {
     let place = match c.place {
         Place::Known(b) => bitbox::Where::Known(b),
@@ -119,7 +139,18 @@ impl Engine for Ours {
     }
 
     fn pack(d: Diff, page: &[u8]) -> Answer<Packed> {
-        answer(ours(d).pack_changed_nodes(page), |p| Packed { nodes: *p.table(), count: p.count() as u64 })
+        let by_value = ours(d).pack_changed_nodes(page);
+        let mut table = [[0xEE; NODE]; 126];
+        match (by_value, ours(d).pack_into(page, &mut table)) {
+            (Ok(p), Ok(count)) => {
+                assert!(table == *p.table() && count == p.count(), "into a lent table the same is packed")
+            }
+            (by_value, lent) => {
+                assert_eq!(by_value.map(|p| p.count()), lent, "into a lent table the same is packed");
+                assert!(table == [[0xEE; NODE]; 126], "a refusal leaves the lent table");
+            }
+        }
+        answer(by_value, |p| Packed { nodes: *p.table(), count: p.count() as u64 })
     }
 
     fn unpack(d: Diff, nodes: &Packed, page: &mut [u8]) -> Answer<()> {
@@ -202,7 +233,9 @@ impl Engine for Ours {
     }
 
     fn reader_next(log: &[u8], at: u64) -> Answer<(Entry, u64)> {
-        answer(bitbox::read_entry(log, at as usize), |(entry, next)| {
+        let read = bitbox::read_entry(log, at as usize);
+        assert_eq!(bitbox::see_entry(log, at as usize).map(seen), read, "what is lent out of the log is what is read");
+        answer(read, |(entry, next)| {
             let entry = match entry {
                 bitbox::Entry::End => Entry::End,
                 bitbox::Entry::Clear { bucket } => Entry::Clear { bucket },
