@@ -178,12 +178,14 @@ pub struct Audited {
 
 // ---- from the proved crates' answers to these
 
+// The number of a refusal.
 fn refusal_number(why: Refusal) -> u64
     ensures { λ r. ⌜ r ≡ numberOf why ⌝ }
 {
     answers::number_of(why) as u64
 }
 
+// The same, 0 where the call is done.
 fn refusal_of(o: Outcome) -> u64
     ensures { λ r. ⌜ r ≡ refusalOf (outcomeSaid o) ⌝ }
 {
@@ -193,6 +195,7 @@ fn refusal_of(o: Outcome) -> u64
     }
 }
 
+// A refusal, which has no value.
 fn refused(why: Refusal) -> Answer
     ensures { λ r. ⌜ r ≡ words (numberOf why) 0 ⌝ }
 {
@@ -202,6 +205,7 @@ fn refused(why: Refusal) -> Answer
     }
 }
 
+// A value.
 fn value(x: u64) -> Answer
     ensures { λ r. ⌜ r ≡ words 0 x ⌝ }
 {
@@ -520,6 +524,7 @@ fn of_audited(a: validate::Audited) -> Audited
     }
 }
 
+// A diff of its two words.
 fn diff(lo: u64, hi: u64) -> Diff
     ensures { λ r. ⌜ r .words ≡ pair lo hi ⌝ }
 {
@@ -529,6 +534,7 @@ fn diff(lo: u64, hi: u64) -> Diff
 
 // ---- diff
 
+// A diff out of its sixteen bytes: 4.
 #[no_mangle]
 pub extern "C" fn bitbox_diff_read(bytes: &[u8; 16]) -> DiffAnswer
     ensures { λ r. ⌜ (r .refusal ≡ refusalOf (readAnswer (now (bytes .entry)))) × (r .diff .words ≡ readWords (now (bytes .entry))) ⌝ }
@@ -542,6 +548,7 @@ pub extern "C" fn bitbox_diff_read(bytes: &[u8; 16]) -> DiffAnswer
     }
 }
 
+// The sixteen bytes of a diff.
 #[no_mangle]
 pub extern "C" fn bitbox_diff_bytes(lo: u64, hi: u64, bytes: &mut [u8; 16])
     ensures { λ _. ⌜ now (bytes .exit) ≡ bytesOfWords (pair lo hi) ⌝ }
@@ -549,6 +556,7 @@ pub extern "C" fn bitbox_diff_bytes(lo: u64, hi: u64, bytes: &mut [u8; 16])
     *bytes = page_diff::as_bytes(diff(lo, hi));
 }
 
+// Marks a slot of a node: 3.
 #[no_mangle]
 pub extern "C" fn bitbox_diff_set(lo: u64, hi: u64, slot: usize) -> DiffAnswer
     ensures { λ r. ⌜ (r .refusal ≡ refusalOf (setAnswer slot)) × (r .diff .words ≡ setWords (pair lo hi) slot) ⌝ }
@@ -562,6 +570,7 @@ pub extern "C" fn bitbox_diff_set(lo: u64, hi: u64, slot: usize) -> DiffAnswer
     }
 }
 
+// Whether a slot is marked: 3.
 #[no_mangle]
 pub extern "C" fn bitbox_diff_ask(lo: u64, hi: u64, slot: usize) -> Answer
     ensures { λ r. ⌜ r ≡ truthWords (askAnswer (pair lo hi) slot) ⌝ }
@@ -569,6 +578,7 @@ pub extern "C" fn bitbox_diff_ask(lo: u64, hi: u64, slot: usize) -> Answer
     of_truth(page_diff::changed(diff(lo, hi), slot))
 }
 
+// Marks the page as cleared.
 #[no_mangle]
 pub extern "C" fn bitbox_diff_set_cleared(lo: u64, hi: u64) -> Diff
     ensures { λ r. ⌜ r .words ≡ clearedWords (pair lo hi) ⌝ }
@@ -576,6 +586,7 @@ pub extern "C" fn bitbox_diff_set_cleared(lo: u64, hi: u64) -> Diff
     page_diff::set_cleared(diff(lo, hi))
 }
 
+// Whether the page was cleared.
 #[no_mangle]
 pub extern "C" fn bitbox_diff_cleared(lo: u64, hi: u64) -> bool
     ensures { λ r. ⌜ r ≡ marked (pair lo hi) 127 ⌝ }
@@ -583,6 +594,7 @@ pub extern "C" fn bitbox_diff_cleared(lo: u64, hi: u64) -> bool
     page_diff::cleared(diff(lo, hi))
 }
 
+// How many marks there are.
 #[no_mangle]
 pub extern "C" fn bitbox_diff_count(lo: u64, hi: u64) -> usize
     ensures { λ r. ⌜ r ≡ countOf (pair lo hi) ⌝ }
@@ -590,6 +602,7 @@ pub extern "C" fn bitbox_diff_count(lo: u64, hi: u64) -> usize
     page_diff::count(diff(lo, hi))
 }
 
+// All marks of both.
 #[no_mangle]
 pub extern "C" fn bitbox_diff_join(lo: u64, hi: u64, lo2: u64, hi2: u64) -> Diff
     ensures { λ r. ⌜ r .words ≡ joined (pair lo hi) (pair lo2 hi2) ⌝ }
@@ -597,6 +610,7 @@ pub extern "C" fn bitbox_diff_join(lo: u64, hi: u64, lo2: u64, hi2: u64) -> Diff
     page_diff::join(diff(lo, hi), diff(lo2, hi2))
 }
 
+// The nodes of a page's marked slots, by value: 2, 4.
 #[no_mangle]
 pub extern "C" fn bitbox_pack(lo: u64, hi: u64, page: &[u8]) -> PackAnswer
     ensures { λ r. ⌜ (r .refusal ≡ refusalOf (packAnswer (pair lo hi) (now (page .entry)))) × (r .packed ≡ packedOf (pair lo hi) (now (page .entry))) ⌝ }
@@ -610,6 +624,7 @@ pub extern "C" fn bitbox_pack(lo: u64, hi: u64, page: &[u8]) -> PackAnswer
     }
 }
 
+// The same into lent memory of 4,032 bytes, and their count: 2, 4, 2.
 #[no_mangle]
 pub extern "C" fn bitbox_pack_into(lo: u64, hi: u64, page: &[u8], nodes: &mut [u8]) -> Answer
     ensures { λ r. ⌜ (r ≡ numberWords (packIntoAnswer (pair lo hi) (now (page .entry)) (now (nodes .entry)))) × (now (nodes .exit) ≡ packedInto (pair lo hi) (now (page .entry)) (now (nodes .entry))) ⌝ }
@@ -617,6 +632,7 @@ pub extern "C" fn bitbox_pack_into(lo: u64, hi: u64, page: &[u8], nodes: &mut [u
     of_number(wal_write::pack_into(nodes, diff(lo, hi), page))
 }
 
+// Puts packed nodes back at the marked slots of a page: 2, 4, 2.
 #[no_mangle]
 pub extern "C" fn bitbox_unpack(
     lo: u64,
@@ -632,6 +648,7 @@ pub extern "C" fn bitbox_unpack(
 
 // ---- tags and places
 
+// The tag of a bucket that holds a page with this hash.
 #[no_mangle]
 pub extern "C" fn bitbox_full_tag(hash: u64) -> u8
     ensures { λ r. ⌜ r ≡ fullTag hash ⌝ }
@@ -639,6 +656,7 @@ pub extern "C" fn bitbox_full_tag(hash: u64) -> u8
     meta_map::full_entry(hash)
 }
 
+// Whether the tag says that the bucket is empty.
 #[no_mangle]
 pub extern "C" fn bitbox_hint_empty(tag: u8) -> bool
     ensures { λ r. ⌜ r ≡ isKind empty (kindOf tag) ⌝ }
@@ -646,6 +664,7 @@ pub extern "C" fn bitbox_hint_empty(tag: u8) -> bool
     meta_map::hint_empty(tag)
 }
 
+// Whether the tag says that a page was cleared there.
 #[no_mangle]
 pub extern "C" fn bitbox_hint_tombstone(tag: u8) -> bool
     ensures { λ r. ⌜ r ≡ isKind tombstone (kindOf tag) ⌝ }
@@ -653,6 +672,7 @@ pub extern "C" fn bitbox_hint_tombstone(tag: u8) -> bool
     meta_map::hint_tombstone(tag)
 }
 
+// Whether the tag says that no page with this hash is there.
 #[no_mangle]
 pub extern "C" fn bitbox_hint_not_match(tag: u8, hash: u64) -> bool
     ensures { λ r. ⌜ r ≡ not (eqb tag (fullTag hash)) ⌝ }
@@ -660,6 +680,7 @@ pub extern "C" fn bitbox_hint_not_match(tag: u8, hash: u64) -> bool
     meta_map::hint_not_match(tag, hash)
 }
 
+// Whether the tag says that some page is there.
 #[no_mangle]
 pub extern "C" fn bitbox_is_full(tag: u8) -> bool
     ensures { λ r. ⌜ r ≡ isKind full (kindOf tag) ⌝ }
@@ -667,6 +688,7 @@ pub extern "C" fn bitbox_is_full(tag: u8) -> bool
     meta_map::is_full(tag)
 }
 
+// Writes the tag of a bucket that takes a page with this hash: 1, 9.
 #[no_mangle]
 pub extern "C" fn bitbox_set_full(tags: &mut [u8], n: usize, bucket: u64, hash: u64) -> Answer
     ensures { λ r. ⌜ (r ≡ outcomeWords (writeAnswer (now (tags .entry)) n bucket)) × (now (tags .exit) ≡ tagWritten (now (tags .entry)) n bucket (fullTag hash)) ⌝ }
@@ -674,6 +696,7 @@ pub extern "C" fn bitbox_set_full(tags: &mut [u8], n: usize, bucket: u64, hash: 
     of_outcome(meta_map::set_full(tags, n, bucket, hash))
 }
 
+// Writes the tag of a bucket whose page is cleared: 1, 9.
 #[no_mangle]
 pub extern "C" fn bitbox_set_tombstone(tags: &mut [u8], n: usize, bucket: u64) -> Answer
     ensures { λ r. ⌜ (r ≡ outcomeWords (writeAnswer (now (tags .entry)) n bucket)) × (now (tags .exit) ≡ tagWritten (now (tags .entry)) n bucket 0x7F) ⌝ }
@@ -681,6 +704,7 @@ pub extern "C" fn bitbox_set_tombstone(tags: &mut [u8], n: usize, bucket: u64) -
     of_outcome(meta_map::set_tombstone(tags, n, bucket))
 }
 
+// How many of the n tags are full: 1.
 #[no_mangle]
 pub extern "C" fn bitbox_full_count(tags: &[u8], n: usize) -> Answer
     ensures { λ r. ⌜ r ≡ numberWords (ifTags (now (tags .entry)) n (given (fullCount full (now (tags .entry)) n))) ⌝ }
@@ -688,6 +712,7 @@ pub extern "C" fn bitbox_full_count(tags: &[u8], n: usize) -> Answer
     of_number(meta_map::full_count(tags, n))
 }
 
+// Whether all bytes after the n tags are zero: 1.
 #[no_mangle]
 pub extern "C" fn bitbox_padding_is_empty(tags: &[u8], n: usize) -> Answer
     ensures { λ r. ⌜ r ≡ truthWords (ifTags (now (tags .entry)) n (given (paddingEmpty (now (tags .entry)) n))) ⌝ }
@@ -695,6 +720,7 @@ pub extern "C" fn bitbox_padding_is_empty(tags: &[u8], n: usize) -> Answer
     of_truth(meta_map::padding_is_empty(tags, n))
 }
 
+// The tag page that a bucket's tag stands in.
 #[no_mangle]
 pub extern "C" fn bitbox_tag_page(bucket: u64) -> u64
     ensures { λ r. ⌜ r ≡ bucket / 4096 ⌝ }
@@ -702,6 +728,7 @@ pub extern "C" fn bitbox_tag_page(bucket: u64) -> u64
     meta_map::page_index(bucket)
 }
 
+// How many tag pages a table has: 1.
 #[no_mangle]
 pub extern "C" fn bitbox_tag_pages(n: usize) -> Answer
     ensures { λ r. ⌜ r ≡ numberWords (ifCount n (tagPages n)) ⌝ }
@@ -709,6 +736,7 @@ pub extern "C" fn bitbox_tag_pages(n: usize) -> Answer
     of_number(ht_file::num_meta_byte_pages(n))
 }
 
+// How long a table's image is: 1.
 #[no_mangle]
 pub extern "C" fn bitbox_table_length(n: usize) -> Answer
     ensures { λ r. ⌜ r ≡ numberWords (ifCount n (imageLength n)) ⌝ }
@@ -716,6 +744,7 @@ pub extern "C" fn bitbox_table_length(n: usize) -> Answer
     of_number(ht_file::expected_file_len(n))
 }
 
+// The page number of a bucket: 1, 9.
 #[no_mangle]
 pub extern "C" fn bitbox_page_number(n: usize, bucket: u64) -> Answer
     ensures { λ r. ⌜ r ≡ numberWords (pageOf n bucket) ⌝ }
@@ -725,6 +754,7 @@ pub extern "C" fn bitbox_page_number(n: usize, bucket: u64) -> Answer
 
 // ---- the path of a hash
 
+// The first empty bucket, tombstone or hit from visit k on: 1.
 #[no_mangle]
 pub extern "C" fn bitbox_probe(tags: &[u8], n: usize, hash: u64, k: u64) -> Probed
     ensures { λ r. ⌜ r ≡ probeWords (probeAnswer (now (tags .entry)) n hash k) ⌝ }
@@ -732,6 +762,7 @@ pub extern "C" fn bitbox_probe(tags: &[u8], n: usize, hash: u64, k: u64) -> Prob
     of_probed(probe::probe_from(tags, n, hash, k))
 }
 
+// The bucket whose page ends in the id: 1.
 #[no_mangle]
 pub extern "C" fn bitbox_lookup(image: &[u8], n: usize, hash: u64, id: &[u8; 32]) -> Found
     ensures { λ r. ⌜ r ≡ lookupWords (lookupAnswer (now (image .entry)) n hash (now (id .entry))) ⌝ }
@@ -739,6 +770,7 @@ pub extern "C" fn bitbox_lookup(image: &[u8], n: usize, hash: u64, id: &[u8; 32]
     of_found(probe::lookup(image, n, hash, *id))
 }
 
+// Gives a bucket to a page with this hash and writes its tag: 1, 10 or 11.
 #[no_mangle]
 pub extern "C" fn bitbox_allocate(tags: &mut [u8], n: usize, hash: u64) -> Answer
     ensures { λ r. ⌜ (r ≡ numberWords (allocateAnswer hitLimit (now (tags .entry)) n hash)) × (now (tags .exit) ≡ allocatedTags hitLimit (now (tags .entry)) n hash) ⌝ }
@@ -748,6 +780,7 @@ pub extern "C" fn bitbox_allocate(tags: &mut [u8], n: usize, hash: u64) -> Answe
 
 // ---- the log
 
+// The sync number of a log: 5, 6, 7.
 #[no_mangle]
 pub extern "C" fn bitbox_reader_set(log: &[u8]) -> Answer
     ensures { λ r. ⌜ r ≡ numberWords (startOf (now (log .entry))) ⌝ }
@@ -755,6 +788,7 @@ pub extern "C" fn bitbox_reader_set(log: &[u8]) -> Answer
     of_number(wal_read::set(log))
 }
 
+// The entry at a position: 6, 8, 4.
 #[no_mangle]
 pub extern "C" fn bitbox_reader_next(log: &[u8], at: usize) -> Entry
     ensures { λ r. ⌜ Read (nextAt (now (log .entry)) at) at r ⌝ }
@@ -816,6 +850,7 @@ fn of_head(h: wal_read::Head) -> Head
     }
 }
 
+// The same without its fields: no table is moved.
 #[no_mangle]
 pub extern "C" fn bitbox_reader_head(log: &[u8], at: usize) -> Head
     ensures { λ r. ⌜ r ≡ headWords (headOf (nextAt (now (log .entry)) at)) ⌝ }
@@ -854,6 +889,7 @@ fn entry_bucket(w: wal_read::What) -> u64
     }
 }
 
+// Begins a log, in any state: 13.
 #[no_mangle]
 pub extern "C" fn bitbox_begin(log: &mut [u8], w: WriterState, sync_seqn: u32) -> Written
     ensures { λ r. ⌜ (r ≡ writtenWords (beginAnswer (now (log .entry))) (beginWriter (now (log .entry)) (writerOf w))) × (now (log .exit) ≡ beginLog (now (log .entry)) «sync_seqn») ⌝ }
@@ -861,6 +897,7 @@ pub extern "C" fn bitbox_begin(log: &mut [u8], w: WriterState, sync_seqn: u32) -
     of_written(wal_write::begin(log, writer_of(w), sync_seqn))
 }
 
+// Writes that a bucket is cleared: 12, 13.
 #[no_mangle]
 pub extern "C" fn bitbox_write_clear(log: &mut [u8], w: WriterState, bucket: u64) -> Written
     ensures { λ r. ⌜ (r ≡ writtenWords (clearAnswer (now (log .entry)) (writerOf w)) (clearWriter (now (log .entry)) (writerOf w))) × (now (log .exit) ≡ clearLog (now (log .entry)) (writerOf w) bucket) ⌝ }
@@ -868,6 +905,7 @@ pub extern "C" fn bitbox_write_clear(log: &mut [u8], w: WriterState, bucket: u64
     of_written(wal_write::write_clear(log, writer_of(w), bucket))
 }
 
+// Writes that a page is changed: 12, 2, 4, 13.
 #[no_mangle]
 pub extern "C" fn bitbox_write_update(
     log: &mut [u8],
@@ -894,6 +932,7 @@ pub extern "C" fn bitbox_write_update(
     ))
 }
 
+// Ends a log and answers its length: 12, 13.
 #[no_mangle]
 pub extern "C" fn bitbox_finish(log: &mut [u8], w: WriterState) -> Written
     ensures { λ r. ⌜ (r ≡ finishedWords (finishAnswer (now (log .entry)) (writerOf w)) (finishWriter (now (log .entry)) (writerOf w))) × (now (log .exit) ≡ finishLog (now (log .entry)) (writerOf w)) ⌝ }
@@ -903,6 +942,7 @@ pub extern "C" fn bitbox_finish(log: &mut [u8], w: WriterState) -> Written
 
 // ---- sync
 
+// One change of a sync: 1, 2, 12, then 4, 2, 9, 14, 13, 10 or 11.
 #[no_mangle]
 pub extern "C" fn bitbox_sync_step(
     tags: &mut [u8],
@@ -942,6 +982,7 @@ fn of_state(st: sync::SyncState) -> StepState
     }
 }
 
+// A list of changes taken into the tags and logged: 1, 2, 13, then at a change as one step.
 #[no_mangle]
 pub extern "C" fn bitbox_sync(
     tags: &mut [u8],
@@ -971,6 +1012,7 @@ pub extern "C" fn bitbox_sync(
 
 // ---- replay
 
+// Replays a log on an image, with a hash for each update: 1, 5, 7, then 6, 8, 4, 9, and 2.
 #[no_mangle]
 pub extern "C" fn bitbox_replay(
     image: &mut [u8],
@@ -984,6 +1026,7 @@ pub extern "C" fn bitbox_replay(
     of_recovered(recover::recover(image, n, log, sync_seqn, hashes))
 }
 
+// One entry of it: 1, 6, 8, 4, 9.
 #[no_mangle]
 pub extern "C" fn bitbox_replay_step(
     image: &mut [u8],
@@ -999,6 +1042,7 @@ pub extern "C" fn bitbox_replay_step(
 
 // ---- growth and audit
 
+// The marker of a growth: 17.
 #[no_mangle]
 pub extern "C" fn bitbox_write_marker(old: u32, new: u32) -> MarkerBytes
     ensures { λ r. ⌜ (r .refusal ≡ refusalOf (writeMarkerAnswer old new)) × (r .bytes ≡ writtenMarker old new) ⌝ }
@@ -1012,6 +1056,7 @@ pub extern "C" fn bitbox_write_marker(old: u32, new: u32) -> MarkerBytes
     }
 }
 
+// The counts of a marker: 15, 16, 17.
 #[no_mangle]
 pub extern "C" fn bitbox_read_marker(bytes: &[u8]) -> Marker
     ensures { λ r. ⌜ r ≡ markerWords (readMarkerAnswer (now (bytes .entry))) ⌝ }
@@ -1019,6 +1064,7 @@ pub extern "C" fn bitbox_read_marker(bytes: &[u8]) -> Marker
     of_marker(rehash::read_marker(bytes))
 }
 
+// What is left to do of a growth: 1, 17, 18.
 #[no_mangle]
 pub extern "C" fn bitbox_pending(old: u64, new: u64, meta: u64, file_len: u64) -> Answer
     ensures { λ r. ⌜ r ≡ leftWords (pendingAnswer old new meta «file_len») ⌝ }
@@ -1026,6 +1072,7 @@ pub extern "C" fn bitbox_pending(old: u64, new: u64, meta: u64, file_len: u64) -
     of_decision(rehash::pending(old, new, meta, file_len))
 }
 
+// Copies a table into a larger one, with a hash for each old bucket: 1, 19, 2, 10 or 11.
 #[no_mangle]
 pub extern "C" fn bitbox_grow(
     old_image: &[u8],
@@ -1039,6 +1086,7 @@ pub extern "C" fn bitbox_grow(
     of_grown(rehash::grow(old_image, old_n, new_image, new_n, hashes))
 }
 
+// Audits a table, with a hash for each bucket: 1, 2, 20, then 21, 22, 23 or 24.
 #[no_mangle]
 pub extern "C" fn bitbox_audit(image: &[u8], n: usize, hashes: &[u64]) -> Audited
     ensures { λ r. ⌜ r ≡ auditWords (auditAnswer (now (image .entry)) n (now (hashes .entry))) ⌝ }

@@ -15,7 +15,11 @@ same-length : tie.Need-same-length
 same-length c = search needs
 
 returns : tie.Need-returns
-returns c = (c .of-allocated .ensures ∙ ap numberWords (c .before .before .before .allocate-bucket .ensures .0), c .before .before .before .allocate-bucket .ensures .1)
+returns c = (
+  c .of-allocated .ensures
+      ∙ ap numberWords (c .before .before .before .allocate-bucket .ensures .0),
+  c .before .before .before .allocate-bucket .ensures .1,
+)
 
 pub bitbox-allocate-spec : {M : Type 1} → statement M
 bitbox-allocate-spec =

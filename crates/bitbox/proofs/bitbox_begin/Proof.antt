@@ -20,7 +20,16 @@ same-length : tie.Need-same-length
 same-length c = search needs
 
 returns : tie.Need-returns
-returns c = let args = c .before .before .before .before .before .before .before .args in let log = args .log .now in (c .of-written .ensures ∙ ap (λ (a : Answer (Unit {0})). writtenWords a (c .before .before .before .begin .result .writer)) (c .before .before .before .begin .ensures .0) ∙ ap (writtenWords (beginAnswer log)) (c .before .before .before .begin .ensures .1 .0 ∙ ap (beginWriter log) (c .before .before .before .before .writer-of .ensures)), c .before .before .before .begin .ensures .1 .1)
+returns c =
+    let at-begin = c .before .before .before in
+    let at-writer-of = c .before .before .before .before in
+    let args = c .before .before .before .before .before .before .before .args in
+    let log = args .log .now in (
+      c .of-written .ensures
+          ∙ ap (λ (a : Answer (Unit {0})). writtenWords a (at-begin .begin .result .writer)) (at-begin .begin .ensures .0)
+          ∙ ap (writtenWords (beginAnswer log)) (at-begin .begin .ensures .1 .0 ∙ ap (beginWriter log) (at-writer-of .writer-of .ensures)),
+      at-begin .begin .ensures .1 .1,
+    )
 
 pub bitbox-begin-spec : {M : Type 1} → statement M
 bitbox-begin-spec =

@@ -18,7 +18,9 @@ of-truth-requires : tie.Need-of-truth-requires
 of-truth-requires c κs = search needs
 
 returns : tie.Need-returns
-returns c = c .of-truth .ensures ∙ ap truthWords (c .before .changed .ensures ∙ ap (λ (ws : List ℕ). askAnswer ws (c .before .before .before .args .slot)) (c .before .before .diff .ensures))
+returns c =
+    c .of-truth .ensures
+    ∙ ap truthWords (c .before .changed .ensures ∙ ap (λ (ws : List ℕ). askAnswer ws (c .before .before .before .args .slot)) (c .before .before .diff .ensures))
 
 pub bitbox-diff-ask-spec : {M : Type 1} → statement M
 bitbox-diff-ask-spec =

@@ -18,7 +18,10 @@ join-requires : tie.Need-join-requires
 join-requires c κs = search needs
 
 returns : tie.Need-returns
-returns c = c .join .ensures ∙ ap (λ (ws : List ℕ). joined ws (c .before .diff2 .result .words)) (c .before .before .diff .ensures) ∙ ap (joined (pair (c .before .before .before .args .lo) (c .before .before .before .args .hi))) (c .before .diff2 .ensures)
+returns c =
+    c .join .ensures
+    ∙ ap (λ (ws : List ℕ). joined ws (c .before .diff2 .result .words)) (c .before .before .diff .ensures)
+    ∙ ap (joined (pair (c .before .before .before .args .lo) (c .before .before .before .args .hi))) (c .before .diff2 .ensures)
 
 pub bitbox-diff-join-spec : {M : Type 1} → statement M
 bitbox-diff-join-spec = tie.close (tie.spec diff-requires diff-requires-2 join-requires returns)

@@ -18,7 +18,12 @@ refusal-of-requires : tie.Need-refusal-of-requires
 refusal-of-requires c κs = search needs
 
 returns : tie.Need-returns
-returns c = (c .refusal-of .ensures ∙ ap refusalOf (c .before .before .set-changed .ensures .0), c .before .before .set-changed .ensures .1 ∙ ap (λ (ws : List ℕ). setWords ws (c .before .before .before .before .args .slot)) (c .before .before .before .diff .ensures))
+returns c = (
+  c .refusal-of .ensures
+      ∙ ap refusalOf (c .before .before .set-changed .ensures .0),
+  c .before .before .set-changed .ensures .1
+      ∙ ap (λ (ws : List ℕ). setWords ws (c .before .before .before .before .args .slot)) (c .before .before .before .diff .ensures),
+)
 
 pub bitbox-diff-set-spec : {M : Type 1} → statement M
 bitbox-diff-set-spec =

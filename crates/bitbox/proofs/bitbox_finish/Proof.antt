@@ -23,7 +23,18 @@ same-length : tie.Need-same-length
 same-length c = search needs
 
 returns : tie.Need-returns
-returns c = let args = c .before .before .before .before .before .before .before .args in let log = args .log .now in (c .of-finished .ensures ∙ ap (λ (a : Answer ℕ). finishedWords a (c .before .before .before .finish .result .writer)) (c .before .before .before .finish .ensures .0) ∙ ap (finishedWords (finishAnswer log (c .before .before .before .before .writer-of .result))) (c .before .before .before .finish .ensures .1 .0) ∙ ap (λ (w : Writer). finishedWords (finishAnswer log w) (finishWriter log w)) (c .before .before .before .before .writer-of .ensures), c .before .before .before .finish .ensures .1 .1 ∙ ap (λ (w : Writer). finishLog log w) (c .before .before .before .before .writer-of .ensures))
+returns c =
+    let at-finish = c .before .before .before in
+    let at-writer-of = c .before .before .before .before in
+    let args = c .before .before .before .before .before .before .before .args in
+    let log = args .log .now in (
+      c .of-finished .ensures
+          ∙ ap (λ (a : Answer ℕ). finishedWords a (at-finish .finish .result .writer)) (at-finish .finish .ensures .0)
+          ∙ ap (finishedWords (finishAnswer log (at-writer-of .writer-of .result))) (at-finish .finish .ensures .1 .0)
+          ∙ ap (λ (w : Writer). finishedWords (finishAnswer log w) (finishWriter log w)) (at-writer-of .writer-of .ensures),
+      at-finish .finish .ensures .1 .1
+          ∙ ap (λ (w : Writer). finishLog log w) (at-writer-of .writer-of .ensures),
+    )
 
 pub bitbox-finish-spec : {M : Type 1} → statement M
 bitbox-finish-spec =

@@ -18,7 +18,14 @@ refusal-of-requires : tie.Need-refusal-of-requires
 refusal-of-requires c κs = search needs
 
 returns : tie.Need-returns
-returns c = let page = c .before .before .before .before .before .args .page .now in (c .refusal-of .ensures ∙ ap refusalOf (c .before .before .pack-changed-nodes .ensures .0 ∙ ap (λ (ws : List ℕ). packAnswer ws page) (c .before .before .before .diff .ensures)), c .before .before .pack-changed-nodes .ensures .1 ∙ ap (λ (ws : List ℕ). packedOf ws page) (c .before .before .before .diff .ensures))
+returns c =
+    let at-diff = c .before .before .before in
+    let page = c .before .before .before .before .before .args .page .now in (
+      c .refusal-of .ensures
+          ∙ ap refusalOf (c .before .before .pack-changed-nodes .ensures .0 ∙ ap (λ (ws : List ℕ). packAnswer ws page) (at-diff .diff .ensures)),
+      c .before .before .pack-changed-nodes .ensures .1
+          ∙ ap (λ (ws : List ℕ). packedOf ws page) (at-diff .diff .ensures),
+    )
 
 pub bitbox-pack-spec : {M : Type 1} → statement M
 bitbox-pack-spec =

@@ -21,7 +21,16 @@ same-length : tie.Need-same-length
 same-length c = search needs
 
 returns : tie.Need-returns
-returns c = let page = c .before .before .before .before .before .before .before .before .args .page .now in let nodes = c .before .before .before .before .before .before .before .before .args .nodes .now in (c .of-number .ensures ∙ ap numberWords (c .before .before .before .pack-into .ensures .0 ∙ ap (λ (ws : List ℕ). packIntoAnswer ws page nodes) (c .before .before .before .before .diff .ensures)), c .before .before .before .pack-into .ensures .1 ∙ ap (λ (ws : List ℕ). packedInto ws page nodes) (c .before .before .before .before .diff .ensures))
+returns c =
+    let at-pack-into = c .before .before .before in
+    let at-diff = c .before .before .before .before in
+    let page = c .before .before .before .before .before .before .before .before .args .page .now in
+    let nodes = c .before .before .before .before .before .before .before .before .args .nodes .now in (
+      c .of-number .ensures
+          ∙ ap numberWords (at-pack-into .pack-into .ensures .0 ∙ ap (λ (ws : List ℕ). packIntoAnswer ws page nodes) (at-diff .diff .ensures)),
+      at-pack-into .pack-into .ensures .1
+          ∙ ap (λ (ws : List ℕ). packedInto ws page nodes) (at-diff .diff .ensures),
+    )
 
 pub bitbox-pack-into-spec : {M : Type 1} → statement M
 bitbox-pack-into-spec =

@@ -18,7 +18,10 @@ entry-bucket-requires : tie.Need-entry-bucket-requires
 entry-bucket-requires c κs = search needs
 
 returns : tie.Need-returns
-returns c = let e = c .before .before .before .before .before .before .before .entry-at .ensures in record { refusal-is = c .before .before .entry-refusal .ensures ∙ ap entryRefusal (e .what-is); kind-is = c .before .entry-kind .ensures ∙ ap entryKind (e .what-is); bucket-is = c .entry-bucket .ensures ∙ ap entryBucket (e .what-is); next-is = e .next-is; id-is = e .id-is; diff-is = e .diff-is; packed-is = e .packed-is; elided-is = e .elided-is }
+returns c =
+    let at-entry-at = c .before .before .before .before .before .before .before in
+    let e = at-entry-at .entry-at .ensures in
+    record { refusal-is = c .before .before .entry-refusal .ensures ∙ ap entryRefusal (e .what-is); kind-is = c .before .entry-kind .ensures ∙ ap entryKind (e .what-is); bucket-is = c .entry-bucket .ensures ∙ ap entryBucket (e .what-is); next-is = e .next-is; id-is = e .id-is; diff-is = e .diff-is; packed-is = e .packed-is; elided-is = e .elided-is }
 
 pub bitbox-reader-next-spec : {M : Type 1} → statement M
 bitbox-reader-next-spec =

@@ -15,7 +15,11 @@ same-length : tie.Need-same-length
 same-length c = search needs
 
 returns : tie.Need-returns
-returns c = (c .of-recovered .ensures ∙ ap replayWords (c .before .before .before .recover .ensures .0), c .before .before .before .recover .ensures .1)
+returns c = (
+  c .of-recovered .ensures
+      ∙ ap replayWords (c .before .before .before .recover .ensures .0),
+  c .before .before .before .recover .ensures .1,
+)
 
 pub bitbox-replay-spec : {M : Type 1} → statement M
 bitbox-replay-spec =

@@ -15,7 +15,11 @@ same-length : tie.Need-same-length
 same-length c = search needs
 
 returns : tie.Need-returns
-returns c = (c .of-stepped .ensures ∙ ap wentWords (c .before .before .before .apply-entry .ensures .0), c .before .before .before .apply-entry .ensures .1)
+returns c = (
+  c .of-stepped .ensures
+      ∙ ap wentWords (c .before .before .before .apply-entry .ensures .0),
+  c .before .before .before .apply-entry .ensures .1,
+)
 
 pub bitbox-replay-step-spec : {M : Type 1} → statement M
 bitbox-replay-step-spec =

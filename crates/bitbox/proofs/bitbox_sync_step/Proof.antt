@@ -35,7 +35,20 @@ same-length-4 : tie.Need-same-length-4
 same-length-4 c = search needs
 
 returns : tie.Need-returns
-returns c = let args = c .before .before .before .before .before .before .before .before .before .before .before .before .before .before .before .before .before .before .before .before .before .before .args in let m = memOf (args .tags .now) (args .marks .now) (args .cells .now) (args .log .now) in let page = args .page .now in let k = args .c in (c .of-taken .ensures ∙ ap (λ (a : Answer (ℕ × ℕ)). stepWords a (c .before .of-state .result)) (c .before .before .before .before .before .before .before .before .before .before .before .step .ensures .0) ∙ ap (λ (s : StepState). stepWords (pageNumber (c .before .before .before .before .before .before .before .before .before .before .before .before .state-of .result) (effectOf (c .before .before .before .before .before .before .before .before .before .before .before .before .state-of .result) m page k)) s) (c .before .of-state .ensures ∙ ap stateWords (c .before .before .before .before .before .before .before .before .before .before .before .step .ensures .1 .0)) ∙ ap (λ (s : SyncState). stepWords (pageNumber s (effectOf s m page k)) (stateWords (stateBy (effectOf s m page k) s k))) (c .before .before .before .before .before .before .before .before .before .before .before .before .state-of .ensures), c .before .before .before .before .before .before .before .before .before .before .before .step .ensures .1 .1 ∙ ap (λ (s : SyncState). memBy (effectOf s m page k) s m page k) (c .before .before .before .before .before .before .before .before .before .before .before .before .state-of .ensures))
+returns c =
+    let at-step = c .before .before .before .before .before .before .before .before .before .before .before in
+    let at-state-of = c .before .before .before .before .before .before .before .before .before .before .before .before in
+    let args = c .before .before .before .before .before .before .before .before .before .before .before .before .before .before .before .before .before .before .before .before .before .before .args in
+    let m = memOf (args .tags .now) (args .marks .now) (args .cells .now) (args .log .now) in
+    let page = args .page .now in
+    let k = args .c in (
+      c .of-taken .ensures
+          ∙ ap (λ (a : Answer (ℕ × ℕ)). stepWords a (c .before .of-state .result)) (at-step .step .ensures .0)
+          ∙ ap (λ (s : StepState). stepWords (pageNumber (at-state-of .state-of .result) (effectOf (at-state-of .state-of .result) m page k)) s) (c .before .of-state .ensures ∙ ap stateWords (at-step .step .ensures .1 .0))
+          ∙ ap (λ (s : SyncState). stepWords (pageNumber s (effectOf s m page k)) (stateWords (stateBy (effectOf s m page k) s k))) (at-state-of .state-of .ensures),
+      at-step .step .ensures .1 .1
+          ∙ ap (λ (s : SyncState). memBy (effectOf s m page k) s m page k) (at-state-of .state-of .ensures),
+    )
 
 pub bitbox-sync-step-spec : {M : Type 1} → statement M
 bitbox-sync-step-spec =

@@ -21,7 +21,17 @@ same-length : tie.Need-same-length
 same-length c = search needs
 
 returns : tie.Need-returns
-returns c = let page = c .before .before .before .before .before .before .before .args .page .now in let nodes = c .before .before .before .before .before .before .before .args .nodes .now in let count = c .before .before .before .before .before .before .before .args .count in (c .of-outcome .ensures ∙ ap outcomeWords (c .before .before .before .unpack-changed-nodes .ensures .0 ∙ ap (λ (ws : List ℕ). unpackAnswer ws count page) (c .before .before .before .before .before .diff .ensures)), c .before .before .before .unpack-changed-nodes .ensures .1 ∙ ap (λ (ws : List ℕ). unpackedPage ws nodes count page) (c .before .before .before .before .before .diff .ensures))
+returns c =
+    let at-unpack-changed-nodes = c .before .before .before in
+    let at-diff = c .before .before .before .before .before in
+    let page = c .before .before .before .before .before .before .before .args .page .now in
+    let nodes = c .before .before .before .before .before .before .before .args .nodes .now in
+    let count = c .before .before .before .before .before .before .before .args .count in (
+      c .of-outcome .ensures
+          ∙ ap outcomeWords (at-unpack-changed-nodes .unpack-changed-nodes .ensures .0 ∙ ap (λ (ws : List ℕ). unpackAnswer ws count page) (at-diff .diff .ensures)),
+      at-unpack-changed-nodes .unpack-changed-nodes .ensures .1
+          ∙ ap (λ (ws : List ℕ). unpackedPage ws nodes count page) (at-diff .diff .ensures),
+    )
 
 pub bitbox-unpack-spec : {M : Type 1} → statement M
 bitbox-unpack-spec =

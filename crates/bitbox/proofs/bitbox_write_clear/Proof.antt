@@ -23,7 +23,18 @@ same-length : tie.Need-same-length
 same-length c = search needs
 
 returns : tie.Need-returns
-returns c = let args = c .before .before .before .before .before .before .before .args in let log = args .log .now in (c .of-written .ensures ∙ ap (λ (a : Answer (Unit {0})). writtenWords a (c .before .before .before .write-clear .result .writer)) (c .before .before .before .write-clear .ensures .0) ∙ ap (writtenWords (clearAnswer log (c .before .before .before .before .writer-of .result))) (c .before .before .before .write-clear .ensures .1 .0) ∙ ap (λ (w : Writer). writtenWords (clearAnswer log w) (clearWriter log w)) (c .before .before .before .before .writer-of .ensures), c .before .before .before .write-clear .ensures .1 .1 ∙ ap (λ (w : Writer). clearLog log w (args .bucket)) (c .before .before .before .before .writer-of .ensures))
+returns c =
+    let at-write-clear = c .before .before .before in
+    let at-writer-of = c .before .before .before .before in
+    let args = c .before .before .before .before .before .before .before .args in
+    let log = args .log .now in (
+      c .of-written .ensures
+          ∙ ap (λ (a : Answer (Unit {0})). writtenWords a (at-write-clear .write-clear .result .writer)) (at-write-clear .write-clear .ensures .0)
+          ∙ ap (writtenWords (clearAnswer log (at-writer-of .writer-of .result))) (at-write-clear .write-clear .ensures .1 .0)
+          ∙ ap (λ (w : Writer). writtenWords (clearAnswer log w) (clearWriter log w)) (at-writer-of .writer-of .ensures),
+      at-write-clear .write-clear .ensures .1 .1
+          ∙ ap (λ (w : Writer). clearLog log w (args .bucket)) (at-writer-of .writer-of .ensures),
+    )
 
 pub bitbox-write-clear-spec : {M : Type 1} → statement M
 bitbox-write-clear-spec =

@@ -27,7 +27,22 @@ same-length : tie.Need-same-length
 same-length c = search needs
 
 returns : tie.Need-returns
-returns c = let args = c .before .before .before .before .before .before .before .before .before .before .args in let log = args .log .now in let count = args .count in (c .of-written .ensures ∙ ap (λ (a : Answer (Unit {0})). writtenWords a (c .before .before .before .write-update .result .writer)) (c .before .before .before .write-update .ensures .0) ∙ ap (writtenWords (updateAnswer log (c .before .before .before .before .before .before .before .writer-of .result) (c .before .before .before .before .before .diff .result .words) count)) (c .before .before .before .write-update .ensures .1 .0) ∙ ap (λ (w : Writer). writtenWords (updateAnswer log w (c .before .before .before .before .before .diff .result .words) count) (updateWriter log w (c .before .before .before .before .before .diff .result .words) count)) (c .before .before .before .before .before .before .before .writer-of .ensures) ∙ ap (λ (ws : List ℕ). writtenWords (updateAnswer log (writerOf (args .w)) ws count) (updateWriter log (writerOf (args .w)) ws count)) (c .before .before .before .before .before .diff .ensures), c .before .before .before .write-update .ensures .1 .1 ∙ ap (λ (w : Writer). updateLog log w (args .id .now) (c .before .before .before .before .before .diff .result .words) (args .nodes .now) count (args .elided .now) (args .bucket)) (c .before .before .before .before .before .before .before .writer-of .ensures) ∙ ap (λ (ws : List ℕ). updateLog log (writerOf (args .w)) (args .id .now) ws (args .nodes .now) count (args .elided .now) (args .bucket)) (c .before .before .before .before .before .diff .ensures))
+returns c =
+    let at-write-update = c .before .before .before in
+    let at-diff = c .before .before .before .before .before in
+    let at-writer-of = c .before .before .before .before .before .before .before in
+    let args = c .before .before .before .before .before .before .before .before .before .before .args in
+    let log = args .log .now in
+    let count = args .count in (
+      c .of-written .ensures
+          ∙ ap (λ (a : Answer (Unit {0})). writtenWords a (at-write-update .write-update .result .writer)) (at-write-update .write-update .ensures .0)
+          ∙ ap (writtenWords (updateAnswer log (at-writer-of .writer-of .result) (at-diff .diff .result .words) count)) (at-write-update .write-update .ensures .1 .0)
+          ∙ ap (λ (w : Writer). writtenWords (updateAnswer log w (at-diff .diff .result .words) count) (updateWriter log w (at-diff .diff .result .words) count)) (at-writer-of .writer-of .ensures)
+          ∙ ap (λ (ws : List ℕ). writtenWords (updateAnswer log (writerOf (args .w)) ws count) (updateWriter log (writerOf (args .w)) ws count)) (at-diff .diff .ensures),
+      at-write-update .write-update .ensures .1 .1
+          ∙ ap (λ (w : Writer). updateLog log w (args .id .now) (at-diff .diff .result .words) (args .nodes .now) count (args .elided .now) (args .bucket)) (at-writer-of .writer-of .ensures)
+          ∙ ap (λ (ws : List ℕ). updateLog log (writerOf (args .w)) (args .id .now) ws (args .nodes .now) count (args .elided .now) (args .bucket)) (at-diff .diff .ensures),
+    )
 
 pub bitbox-write-update-spec : {M : Type 1} → statement M
 bitbox-write-update-spec =

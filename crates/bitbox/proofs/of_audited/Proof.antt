@@ -25,7 +25,10 @@ returns : tie.Need-returns
 returns c = sym (ap (λ (x : Audited). auditWords (auditedSaid x)) (c .before .a .given .1))
 
 returns-2 : tie.Need-returns-2
-returns-2 c = ap (λ (k : ℕ). auditWords (refused k)) (c .before .refusal-number .ensures) ∙ sym (ap (λ (x : Audited). auditWords (auditedSaid x)) (c .before .before .before .a2 .given .1))
+returns-2 c =
+    let at-a2 = c .before .before .before in
+    ap (λ (k : ℕ). auditWords (refused k)) (c .before .refusal-number .ensures)
+    ∙ sym (ap (λ (x : Audited). auditWords (auditedSaid x)) (at-a2 .a2 .given .1))
 
 pub of-audited-spec : {M : Type 1} → statement M
 of-audited-spec =

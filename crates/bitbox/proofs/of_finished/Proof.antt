@@ -16,7 +16,11 @@ of-writer-requires : tie.Need-of-writer-requires
 of-writer-requires c κs = search needs
 
 returns : tie.Need-returns
-returns c = let f = c .before .before .args .f in ap (λ (x : Words). written (x .refusal) (x .value) (c .of-writer .result)) (c .before .of-number .ensures) ∙ ap (λ (s : WriterState). written (numberWords (numberSaid (f .answer)) .refusal) (numberWords (numberSaid (f .answer)) .value) s) (c .of-writer .ensures) ∙ sym (finished-is (numberSaid (f .answer)) (f .writer))
+returns c =
+    let f = c .before .before .args .f in
+    ap (λ (x : Words). written (x .refusal) (x .value) (c .of-writer .result)) (c .before .of-number .ensures)
+    ∙ ap (λ (s : WriterState). written (numberWords (numberSaid (f .answer)) .refusal) (numberWords (numberSaid (f .answer)) .value) s) (c .of-writer .ensures)
+    ∙ sym (finished-is (numberSaid (f .answer)) (f .writer))
 
 pub of-finished-spec : {M : Type 1} → statement M
 of-finished-spec = tie.close (tie.spec of-number-requires of-writer-requires returns)

@@ -33,7 +33,9 @@ returns-3 : tie.Need-returns-3
 returns-3 c = sym (ap (λ (x : Found). lookupWords (foundSaid x)) (c .enum-told2 .given .1))
 
 returns-4 : tie.Need-returns-4
-returns-4 c = ap (λ (k : ℕ). found k 0 0) (c .refusal-number .ensures) ∙ sym (ap (λ (x : Found). lookupWords (foundSaid x)) (c .before .before .f2 .given .1))
+returns-4 c =
+    ap (λ (k : ℕ). found k 0 0) (c .refusal-number .ensures)
+    ∙ sym (ap (λ (x : Found). lookupWords (foundSaid x)) (c .before .before .f2 .given .1))
 
 pub of-found-spec : {M : Type 1} → statement M
 of-found-spec =

@@ -33,7 +33,9 @@ returns-3 : tie.Need-returns-3
 returns-3 c = sym (ap (λ (x : Head). headWords (headSaid x)) (c .enum-told .given .1))
 
 returns-4 : tie.Need-returns-4
-returns-4 c = ap (λ (k : ℕ). head k 0 0 0 0) (c .refusal-number .ensures) ∙ sym (ap (λ (x : Head). headWords (headSaid x)) (c .before .before .h3 .given .1))
+returns-4 c =
+    ap (λ (k : ℕ). head k 0 0 0 0) (c .refusal-number .ensures)
+    ∙ sym (ap (λ (x : Head). headWords (headSaid x)) (c .before .before .h3 .given .1))
 
 pub of-head-spec : {M : Type 1} → statement M
 of-head-spec =

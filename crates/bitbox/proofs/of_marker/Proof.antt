@@ -27,7 +27,9 @@ returns : tie.Need-returns
 returns c = sym (ap (λ (x : MarkerRead). markerWords (markerSaid x)) (c .before .m .given .1))
 
 returns-2 : tie.Need-returns-2
-returns-2 c = ap (λ (k : ℕ). marker k 0 0) (c .refusal-number .ensures) ∙ sym (ap (λ (x : MarkerRead). markerWords (markerSaid x)) (c .before .before .m2 .given .1))
+returns-2 c =
+    ap (λ (k : ℕ). marker k 0 0) (c .refusal-number .ensures)
+    ∙ sym (ap (λ (x : MarkerRead). markerWords (markerSaid x)) (c .before .before .m2 .given .1))
 
 pub of-marker-spec : {M : Type 1} → statement M
 of-marker-spec =

@@ -39,7 +39,9 @@ returns-4 : tie.Need-returns-4
 returns-4 c = sym (ap (λ (x : Probed). probeWords (probedSaid x)) (c .enum-told .given .1))
 
 returns-5 : tie.Need-returns-5
-returns-5 c = ap (λ (k : ℕ). probed k 0 0 0) (c .refusal-number .ensures) ∙ sym (ap (λ (x : Probed). probeWords (probedSaid x)) (c .before .before .p4 .given .1))
+returns-5 c =
+    ap (λ (k : ℕ). probed k 0 0 0) (c .refusal-number .ensures)
+    ∙ sym (ap (λ (x : Probed). probeWords (probedSaid x)) (c .before .before .p4 .given .1))
 
 pub of-probed-spec : {M : Type 1} → statement M
 of-probed-spec =

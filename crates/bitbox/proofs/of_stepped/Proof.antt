@@ -33,7 +33,9 @@ returns-3 : tie.Need-returns-3
 returns-3 c = sym (ap (λ (x : Stepped). wentWords (steppedSaid x)) (c .before .s2 .given .1))
 
 returns-4 : tie.Need-returns-4
-returns-4 c = ap (λ (k : ℕ). went k 0 0) (c .refusal-number .ensures) ∙ sym (ap (λ (x : Stepped). wentWords (steppedSaid x)) (c .before .before .s3 .given .1))
+returns-4 c =
+    ap (λ (k : ℕ). went k 0 0) (c .refusal-number .ensures)
+    ∙ sym (ap (λ (x : Stepped). wentWords (steppedSaid x)) (c .before .before .s3 .given .1))
 
 pub of-stepped-spec : {M : Type 1} → statement M
 of-stepped-spec =

@@ -27,10 +27,15 @@ returns : tie.Need-returns
 returns c = sym (ap (λ (x : Synced). syncWords (syncedSaid x) (c .before .before .before .args .writer)) (c .before .s .given .1))
 
 returns-2 : tie.Need-returns-2
-returns-2 c = ap (λ (k : ℕ). synced k 0 0 0 0 (c .before .before .before .before .args .writer)) (c .refusal-number .ensures) ∙ sym (ap (λ (x : Synced). syncWords (syncedSaid x) (c .before .before .before .before .args .writer)) (c .before .before .s2 .given .1))
+returns-2 c =
+    ap (λ (k : ℕ). synced k 0 0 0 0 (c .before .before .before .before .args .writer)) (c .refusal-number .ensures)
+    ∙ sym (ap (λ (x : Synced). syncWords (syncedSaid x) (c .before .before .before .before .args .writer)) (c .before .before .s2 .given .1))
 
 returns-3 : tie.Need-returns-3
-returns-3 c = let j = c .before .before .s3 .given .0 .0 in ap (λ (k : ℕ). synced k 1 j 0 0 (c .before .before .before .before .args .writer)) (c .refusal-number2 .ensures) ∙ sym (ap (λ (x : Synced). syncWords (syncedSaid x) (c .before .before .before .before .args .writer)) (c .before .before .s3 .given .1))
+returns-3 c =
+    let j = c .before .before .s3 .given .0 .0 in
+    ap (λ (k : ℕ). synced k 1 j 0 0 (c .before .before .before .before .args .writer)) (c .refusal-number2 .ensures)
+    ∙ sym (ap (λ (x : Synced). syncWords (syncedSaid x) (c .before .before .before .before .args .writer)) (c .before .before .s3 .given .1))
 
 pub of-synced-spec : {M : Type 1} → statement M
 of-synced-spec =

@@ -22,7 +22,9 @@ returns : tie.Need-returns
 returns c = sym (ap (λ (x : Taken). stepWords (takenSaid x) (c .before .before .before .args .st)) (c .before .t .given .1))
 
 returns-2 : tie.Need-returns-2
-returns-2 c = ap (λ (k : ℕ). stepWords (refused k) (c .before .before .before .before .args .st)) (c .refusal-number .ensures) ∙ sym (ap (λ (x : Taken). stepWords (takenSaid x) (c .before .before .before .before .args .st)) (c .before .before .t2 .given .1))
+returns-2 c =
+    ap (λ (k : ℕ). stepWords (refused k) (c .before .before .before .before .args .st)) (c .refusal-number .ensures)
+    ∙ sym (ap (λ (x : Taken). stepWords (takenSaid x) (c .before .before .before .before .args .st)) (c .before .before .t2 .given .1))
 
 pub of-taken-spec : {M : Type 1} → statement M
 of-taken-spec =

@@ -15,7 +15,11 @@ of-writer-requires : tie.Need-of-writer-requires
 of-writer-requires c κs = search needs
 
 returns : tie.Need-returns
-returns c = let w = c .before .before .args .w in ap (λ (k : ℕ). written k 0 (c .of-writer .result)) (c .before .refusal-of .ensures) ∙ ap (written (refusalOf (outcomeSaid (w .outcome))) 0) (c .of-writer .ensures) ∙ sym (written-is (outcomeSaid (w .outcome)) (w .writer))
+returns c =
+    let w = c .before .before .args .w in
+    ap (λ (k : ℕ). written k 0 (c .of-writer .result)) (c .before .refusal-of .ensures)
+    ∙ ap (written (refusalOf (outcomeSaid (w .outcome))) 0) (c .of-writer .ensures)
+    ∙ sym (written-is (outcomeSaid (w .outcome)) (w .writer))
 
 pub of-written-spec : {M : Type 1} → statement M
 of-written-spec = tie.close (tie.spec refusal-of-requires of-writer-requires returns)
