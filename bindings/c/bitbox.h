@@ -235,8 +235,9 @@ size_t bitbox_diff_count(uint64_t lo, uint64_t hi);
 bitbox_diff bitbox_diff_join(uint64_t lo, uint64_t hi, uint64_t lo2, uint64_t hi2);
 /* The nodes of the marked slots. 2, 4. */
 bitbox_pack_answer bitbox_pack(uint64_t lo, uint64_t hi, const uint8_t *page, size_t page_len);
-/* The same into lent memory of 4,032 bytes, zeros after the nodes: their count. 2, 4, 2. */
-bitbox_answer bitbox_pack_into(uint64_t lo, uint64_t hi, const uint8_t *page, size_t page_len, uint8_t *nodes, size_t nodes_len);
+/* The same into 126 * 32 lent bytes: the nodes and zeros after them; their count. 2, 4, 2. */
+bitbox_answer bitbox_pack_into(uint64_t lo, uint64_t hi, const uint8_t *page, size_t page_len, uint8_t *nodes,
+                               size_t nodes_len);
 /* Puts nodes at the marked slots. 2, 4, 2. */
 bitbox_answer bitbox_unpack(uint64_t lo, uint64_t hi, const uint8_t nodes[126][32], size_t count, uint8_t *page,
                             size_t page_len);

@@ -21,7 +21,8 @@ pub fn pack(rng: &mut Rng) -> Vec<Row> {
         let into = || {
             timed(|| {
                 for _ in 0..TIMES {
-                    black_box(black_box(diff(words)).pack_into(black_box(&page), black_box(&mut table))).expect("a page");
+                    black_box(black_box(diff(words)).pack_changed_nodes_into(black_box(&page), black_box(&mut table)))
+                        .expect("a page");
                 }
             })
             .0
@@ -35,7 +36,9 @@ pub fn pack(rng: &mut Rng) -> Vec<Row> {
             })
             .0
         };
-        rows.push(row(format!("pack, {count} slots, by value"), TIMES, 15, by_value, || theirs::pack(words, &page, TIMES)));
+        rows.push(row(format!("pack, {count} slots, by value"), TIMES, 15, by_value, || {
+            theirs::pack(words, &page, TIMES)
+        }));
     }
     rows
 }
@@ -57,8 +60,9 @@ pub fn unpack(rng: &mut Rng) -> Vec<Row> {
                 })
                 .0
             };
-            let done =
-                row(format!("unpack, {count} slots"), TIMES, 15, ours, || theirs::unpack(words, &nodes, &mut other, TIMES));
+            let done = row(format!("unpack, {count} slots"), TIMES, 15, ours, || {
+                theirs::unpack(words, &nodes, &mut other, TIMES)
+            });
             assert!(mine == other);
             done
         })

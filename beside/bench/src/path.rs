@@ -20,7 +20,10 @@ pub fn allocation(bits: u32, rng: &mut Rng) -> Vec<Row> {
             let ours = || {
                 let mut tags = table.tags.clone();
                 mine.clear();
-                timed(|| mine.extend(ids.iter().map(|id| allocate(&mut tags, table.n, hash_of(*id)).expect("a bucket")))).0
+                timed(|| {
+                    mine.extend(ids.iter().map(|id| allocate(&mut tags, table.n, hash_of(*id)).expect("a bucket")))
+                })
+                .0
             };
             let original = || {
                 other.clear();
@@ -66,7 +69,8 @@ pub fn count(bits: u32, rng: &mut Rng) -> Row {
     table.fill(70, rng);
     let map = theirs::Map::new(&table.tags, table.n);
     let (mut mine, mut other) = (0, 0);
-    let ours = || timed(|| (0..20).for_each(|_| mine = full_count(black_box(&table.tags), table.n).expect("a table"))).0;
+    let ours =
+        || timed(|| (0..20).for_each(|_| mine = full_count(black_box(&table.tags), table.n).expect("a table"))).0;
     let original = || {
         let (took, count) = map.full_count(20);
         other = count as u64;

@@ -35,15 +35,17 @@ fn panel(out: &mut String, curve: &Curve, left: f64) {
     let text = |out: &mut String, x: f64, y: f64, anchor: &str, colour: &str, s: &str| {
         let _ = writeln!(out, "<text x=\"{x:.1}\" y=\"{y:.1}\" text-anchor=\"{anchor}\" fill=\"{colour}\">{s}</text>");
     };
-    let _ = writeln!(
-        out,
-        "<rect x=\"{left}\" y=\"30\" width=\"{WIDE}\" height=\"{HIGH}\" fill=\"none\" stroke=\"#888\"/>"
-    );
+    let _ =
+        writeln!(out, "<rect x=\"{left}\" y=\"30\" width=\"{WIDE}\" height=\"{HIGH}\" fill=\"none\" stroke=\"#888\"/>");
     text(out, left, 20.0, "start", "black", &format!("{}, ns each", curve.name));
     for (colour, name, pick) in [("#1664c0", "ours", 0), ("#c04a16", "original", 1)] {
         let value = |p: &(usize, f64, f64)| if pick == 0 { p.1 } else { p.2 };
         let line: Vec<String> = curve.points.iter().map(|p| format!("{:.1},{:.1}", x(p.0), y(value(p)))).collect();
-        let _ = writeln!(out, "<polyline points=\"{}\" fill=\"none\" stroke=\"{colour}\" stroke-width=\"2\"/>", line.join(" "));
+        let _ = writeln!(
+            out,
+            "<polyline points=\"{}\" fill=\"none\" stroke=\"{colour}\" stroke-width=\"2\"/>",
+            line.join(" ")
+        );
         for p in &curve.points {
             let _ = writeln!(out, "<circle cx=\"{:.1}\" cy=\"{:.1}\" r=\"3\" fill=\"{colour}\"/>", x(p.0), y(value(p)));
             text(out, x(p.0), y(value(p)) - 6.0, "middle", colour, &format!("{:.0}", value(p)));

@@ -3,7 +3,7 @@
 
 use model::{
     audit::Audited,
-    diff::{Diff, Packed},
+    diff::{Diff, Node, Packed},
     growth::{Grown, Pending},
     path::{Found, Probed},
     reader::Entry,
@@ -11,7 +11,7 @@ use model::{
     sync::{Change, Lent, State, Step, Synced},
     tags::Kind,
     writer::Writer,
-    Answer,
+    Answer, Refused,
 };
 
 /// An entry without its fields: 0 end, 1 clear, 2 update; its bucket; the count of its nodes; the position
@@ -36,6 +36,8 @@ pub trait Engine {
     fn diff_count(d: Diff) -> u64;
     fn diff_join(a: Diff, b: Diff) -> Diff;
     fn pack(d: Diff, page: &[u8]) -> Answer<Packed>;
+    /// Into lent memory; the count.
+    fn pack_into(d: Diff, page: &[u8], nodes: &mut [Node]) -> Answer<u64>;
     fn unpack(d: Diff, packed: &Packed, page: &mut [u8]) -> Answer<()>;
 
     fn full_tag(hash: u64) -> u8;
@@ -126,6 +128,15 @@ impl Engine for Model {
 
     fn pack(d: Diff, page: &[u8]) -> Answer<Packed> {
         model::diff::pack(d, page)
+    }
+
+    fn pack_into(d: Diff, page: &[u8], nodes: &mut [Node]) -> Answer<u64> {
+        let packed = model::diff::pack(d, page)?;
+        if nodes.len() != packed.nodes.len() {
+            return Err(Refused(2));
+        }
+        nodes.copy_from_slice(&packed.nodes);
+        Ok(packed.count)
     }
 
     fn unpack(d: Diff, packed: &Packed, page: &mut [u8]) -> Answer<()> {

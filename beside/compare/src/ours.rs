@@ -4,7 +4,7 @@
 use crate::engine::{Engine, Head};
 use model::{
     audit::Audited,
-    diff::{Diff, Packed, NODE},
+    diff::{Diff, Node, Packed, NODE},
     growth::{Grown, Pending},
     path::{Found, Probed},
     reader::Entry,
@@ -58,26 +58,6 @@ fn writer(w: bitbox::Writer) -> Writer {
     }
 }
 
-/// An entry that is lent out of its log, copied.
-fn seen((entry, next): (bitbox::EntryRef<'_>, usize)) -> (bitbox::Entry, usize) {
-    let entry = match entry {
-        bitbox::EntryRef::End => bitbox::Entry::End,
-        bitbox::EntryRef::Clear { bucket } => bitbox::Entry::Clear { bucket },
-        bitbox::EntryRef::Update(u) => {
-            let nodes: Vec<[u8; NODE]> = u.nodes().copied().collect();
-            let nodes = bitbox::Packed::new(&nodes).expect("at most 126 nodes");
-            bitbox::Entry::Update(bitbox::Update {
-                bucket: u.bucket,
-                id: *u.id,
-                diff: u.diff,
-                nodes,
-                elided: *u.elided,
-            })
-        }
-    };
-    (entry, next)
-}
-
 fn change(c: &Change) -> bitbox::Change {
     let place = match c.place {
         Place::Known(b) => bitbox::Where::Known(b),
@@ -103,6 +83,27 @@ fn kept<T>(before: Writer, after: bitbox::Writer, said: Result<T, bitbox::Refusa
         assert!(writer(after) == before, "a refused call of the writer keeps its state");
     }
     answer(said, |value| (value, writer(after)))
+}
+
+/// An entry that is lent out of its log is the one that is copied.
+fn seen(log: &[u8], at: usize) {
+    let same = match (bitbox::see_entry(log, at), bitbox::read_entry(log, at)) {
+        (Err(lent), Err(copied)) => lent == copied,
+        (Ok((lent, next)), Ok((copied, after))) => {
+            next == after
+                && match (lent, copied) {
+                    (bitbox::EntryRef::End, bitbox::Entry::End) => true,
+                    (bitbox::EntryRef::Clear { bucket }, bitbox::Entry::Clear { bucket: b }) => bucket == b,
+                    (bitbox::EntryRef::Update(u), bitbox::Entry::Update(v)) => {
+                        let fields = (u.bucket, *u.id, u.diff, *u.elided) == (v.bucket, v.id, v.diff, v.elided);
+                        fields && u.count() == v.nodes.count() && u.nodes().eq(v.nodes.nodes())
+                    }
+                    _ => false,
+                }
+        }
+        _ => false,
+    };
+    assert!(same, "an entry lent out of a log at {at} is the one that is copied");
 }
 
 impl Engine for Ours {
@@ -139,18 +140,11 @@ impl Engine for Ours {
     }
 
     fn pack(d: Diff, page: &[u8]) -> Answer<Packed> {
-        let by_value = ours(d).pack_changed_nodes(page);
-        let mut table = [[0xEE; NODE]; 126];
-        match (by_value, ours(d).pack_into(page, &mut table)) {
-            (Ok(p), Ok(count)) => {
-                assert!(table == *p.table() && count == p.count(), "into a lent table the same is packed")
-            }
-            (by_value, lent) => {
-                assert_eq!(by_value.map(|p| p.count()), lent, "into a lent table the same is packed");
-                assert!(table == [[0xEE; NODE]; 126], "a refusal leaves the lent table");
-            }
-        }
-        answer(by_value, |p| Packed { nodes: *p.table(), count: p.count() as u64 })
+        answer(ours(d).pack_changed_nodes(page), |p| Packed { nodes: *p.table(), count: p.count() as u64 })
+    }
+
+    fn pack_into(d: Diff, page: &[u8], nodes: &mut [Node]) -> Answer<u64> {
+        answer(ours(d).pack_changed_nodes_into(page, nodes), |count| count as u64)
     }
 
     fn unpack(d: Diff, nodes: &Packed, page: &mut [u8]) -> Answer<()> {
@@ -233,9 +227,8 @@ impl Engine for Ours {
     }
 
     fn reader_next(log: &[u8], at: u64) -> Answer<(Entry, u64)> {
-        let read = bitbox::read_entry(log, at as usize);
-        assert_eq!(bitbox::see_entry(log, at as usize).map(seen), read, "what is lent out of the log is what is read");
-        answer(read, |(entry, next)| {
+        seen(log, at as usize);
+        answer(bitbox::read_entry(log, at as usize), |(entry, next)| {
             let entry = match entry {
                 bitbox::Entry::End => Entry::End,
                 bitbox::Entry::Clear { bucket } => Entry::Clear { bucket },

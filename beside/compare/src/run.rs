@@ -283,11 +283,12 @@ fn heard_row(heard: &Heard) -> usize {
 }
 
 /// The refusals that document 01 gives each operation: of the call, and of a sync at a change.
-const REFUSALS: [(&str, &[u8], &[u8]); 33] = [
+const REFUSALS: [(&str, &[u8], &[u8]); 34] = [
     ("diff read", &[4], &[]),
     ("diff set", &[3], &[]),
     ("diff ask", &[3], &[]),
     ("pack", &[2, 4], &[]),
+    ("pack into", &[2, 4], &[]),
     ("unpack", &[2, 4], &[]),
     ("set full", &[1, 9], &[]),
     ("set tombstone", &[1, 9], &[]),

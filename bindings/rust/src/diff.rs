@@ -102,13 +102,14 @@ impl Diff {
         Ok(answer.packed)
     }
 
-    /// The same into a lent table, zero after the nodes: how many there are. No table is moved, so it is the
-    /// faster way; a refusal leaves the table.
+    /// The same into lent memory, with no table between: the nodes, and zeros after them. How many nodes there
+    /// are is answered.
     ///
     /// # Errors
     ///
-    /// Those of [`pack_changed_nodes`](Diff::pack_changed_nodes).
-    pub fn pack_into(self, page: &[u8], nodes: &mut [Node; SLOTS]) -> Result<usize, Refusal> {
+    /// Those of [`pack_changed_nodes`](Diff::pack_changed_nodes), then
+    /// [`LengthUnfit`](Refusal::LengthUnfit): there is not room for exactly 126 nodes.
+    pub fn pack_changed_nodes_into(self, page: &[u8], nodes: &mut [Node]) -> Result<usize, Refusal> {
         let answer = ffi::pack_into(self, page, nodes.as_flattened_mut());
         said(answer.refusal)?;
         Ok(position(answer.value))

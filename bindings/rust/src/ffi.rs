@@ -271,9 +271,10 @@ pub(crate) fn pack(diff: Diff, page: &[u8]) -> PackAnswer {
     unsafe { library::bitbox_pack(lo, hi, page.as_ptr(), page.len()) }
 }
 
-pub(crate) fn pack_into(d: Diff, page: &[u8], nodes: &mut [u8]) -> Answer {
-    let [lo, hi] = d.words();
-    unsafe { library::bitbox_pack_into(lo, hi, page.as_ptr(), page.len(), nodes.as_mut_ptr(), nodes.len()) }
+pub(crate) fn pack_into(diff: Diff, page: &[u8], nodes: &mut [u8]) -> Answer {
+    let [lo, hi] = diff.words();
+    let (nodes, len) = (nodes.as_mut_ptr(), nodes.len());
+    unsafe { library::bitbox_pack_into(lo, hi, page.as_ptr(), page.len(), nodes, len) }
 }
 
 pub(crate) fn unpack(diff: Diff, nodes: &[Node; SLOTS], count: usize, page: &mut [u8]) -> Answer {

@@ -58,6 +58,9 @@ fn nodes_are_packed_and_unpacked() {
             assert_eq!(node[..], from[NODE * slot..NODE * (slot + 1)]);
         }
         assert!(packed.table()[slots.len()..].iter().all(|n| *n == [0; NODE]), "zero from the count on");
+        let mut nodes = [[0xEE; NODE]; SLOTS];
+        assert_eq!(d.pack_changed_nodes_into(&from, &mut nodes), Ok(slots.len()));
+        assert!(nodes == *packed.table());
 
         let mut to = page(100, &id(2));
         let before = to.clone();
@@ -91,6 +94,27 @@ fn packing_refuses() {
     for count in [0, 1, 3, 126, 127, usize::MAX] {
         let packed = Packed::from_table([[9; NODE]; SLOTS], count);
         assert_eq!(leaves(&mut page, |p| diff(&[1, 2]).unpack_changed_nodes(&packed, p)), Err(LengthUnfit), "{count}");
+    }
+}
+
+#[test]
+fn packing_into_lent_memory_refuses() {
+    let page = page(1, &id(1));
+    let into = |d: Diff, page: &[u8], room: usize| {
+        let mut nodes = vec![[0xEE; NODE]; room];
+        let answer = d.pack_changed_nodes_into(page, &mut nodes);
+        assert!(nodes.iter().all(|n| *n == [0xEE; NODE]), "a refused call leaves what it was lent");
+        answer
+    };
+    for len in [0, 4032, 4095] {
+        // The page's length comes before the diff, and this before the nodes.
+        assert_eq!(into(cleared(), &page[..len], 0), Err(LengthUnfit), "{len} bytes");
+        assert_eq!(into(diff(&[1]), &page[..len], SLOTS), Err(LengthUnfit), "{len} bytes");
+    }
+    assert_eq!(into(cleared(), &page, 0), Err(DiffReserved));
+    assert_eq!(into(Diff::from_words([0, 1 << 62]), &page, SLOTS), Err(DiffReserved));
+    for room in [0, 1, 125, 127] {
+        assert_eq!(into(diff(&[1]), &page, room), Err(LengthUnfit), "room for {room}");
     }
 }
 
@@ -176,29 +200,5 @@ fn places() {
     }
     for (bucket, at) in [(0, 0), (4095, 0), (4096, 1), (u64::MAX, u64::MAX / 4096)] {
         assert_eq!(tag_page(bucket), at);
-    }
-}
-
-#[test]
-fn packing_into_a_table_is_packing() {
-    let from = page(7, &id(1));
-    for words in
-        [[0, 0], [1, 0], [u64::MAX, (1 << 62) - 1], [1 << 63, 1], [0x5555, 1 << 61], [0, 1 << 62], [3, 1 << 63]]
-    {
-        let d = Diff::from_words(words);
-        for from in [&from[..], &from[..PAGE - 1], &[]] {
-            let mut table = [[0xEE; NODE]; SLOTS];
-            let said = d.pack_into(from, &mut table);
-            match d.pack_changed_nodes(from) {
-                Ok(packed) => {
-                    assert_eq!(said, Ok(packed.count()));
-                    assert!(table == *packed.table(), "every byte, those after the nodes too: {words:?}");
-                }
-                Err(why) => {
-                    assert_eq!(said, Err(why));
-                    assert!(table == [[0xEE; NODE]; SLOTS], "a refusal leaves the table");
-                }
-            }
-        }
     }
 }

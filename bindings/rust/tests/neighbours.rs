@@ -40,6 +40,10 @@ fn pages_and_tags() {
     assert_eq!(all.unpack_changed_nodes(&nodes, page.lent()), Ok(()));
     assert!(page.lent()[..4032] == from[..4032] && page.stays(WALL));
 
+    let mut table = Amid::new(&[[0xEE; NODE]; SLOTS], [WALL; NODE]);
+    assert_eq!(all.pack_changed_nodes_into(&from, table.lent()), Ok(SLOTS));
+    assert!(table.lent() == nodes.table() && table.stays([WALL; NODE]));
+
     let mut tags = bytes(PAGE);
     assert_eq!(set_full(tags.lent(), 4096, 4095, u64::MAX), Ok(()));
     assert_eq!(set_tombstone(tags.lent(), 4096, 0), Ok(()));

@@ -24,6 +24,8 @@ pub enum Input {
     Count(Diff),
     Join(Diff, Diff),
     Pack(Diff, Filler),
+    /// Into lent memory for so many nodes.
+    PackInto(Diff, Filler, u64),
     /// A diff, what the table of nodes is filled with, its count, and the page.
     Unpack(Diff, u64, u64, Filler),
 }
@@ -62,6 +64,7 @@ impl Op for DiffOp {
             Count(..) => "diff count",
             Join(..) => "diff join",
             Pack(..) => "pack",
+            PackInto(..) => "pack into",
             Unpack(..) => "unpack",
         }
     }
@@ -79,6 +82,11 @@ impl Op for DiffOp {
             Pack(d, page) => Out::of(E::pack(d, &page.bytes()), |p| {
                 Out::value("packed", &[p.count]).with("nodes", p.nodes.as_flattened())
             }),
+            PackInto(d, page, room) => {
+                let mut nodes = vec![[0xEE; NODE]; room as usize];
+                let said = E::pack_into(d, &page.bytes(), &mut nodes);
+                Out::of(said, |count| Out::value("packed", &[count])).with("nodes", nodes.as_flattened())
+            }
             Unpack(d, with, count, page) => {
                 let mut page = page.bytes();
                 let packed = Packed { nodes: nodes_of(with), count };
@@ -103,7 +111,8 @@ impl Op for DiffOp {
             Cleared(d) => Heard::of(o::cleared(words(d)), flag),
             Count(d) => Heard::of(o::count(words(d)), |c| Out::value("count", &[c as u64])),
             Join(a, b) => Heard::of(o::join(words(a), words(b)), words_out),
-            Pack(d, page) => Heard::of(o::pack(words(d), &page.bytes()), |nodes| {
+            PackInto(_, _, room) if room != SLOTS as u64 => Heard::NotAsked,
+            Pack(d, page) | PackInto(d, page, _) => Heard::of(o::pack(words(d), &page.bytes()), |nodes| {
                 let mut table = [[0; NODE]; SLOTS];
                 let kept = nodes.len().min(SLOTS);
                 table[..kept].copy_from_slice(&nodes[..kept]);
@@ -126,19 +135,25 @@ impl Op for DiffOp {
         match (input, &model.said, heard) {
             (Set(_, 126..), Said::Refused(3), Heard::Panicked(_)) => Some("diff set: a slot above 125 panics (01: 3)"),
             (Ask(_, 128..), Said::Refused(3), Heard::Panicked(_)) => Some("diff ask: a slot above 127 panics (01: 3)"),
-            (Pack(d, _) | Unpack(d, ..), Said::Refused(4), Heard::Panicked(_)) if d.cleared() => {
+            (Pack(d, _) | PackInto(d, ..) | Unpack(d, ..), Said::Refused(4), Heard::Panicked(_)) if d.cleared() => {
                 Some("pack, unpack: bit 127 panics (01: 4)")
             }
             (Unpack(d, _, count, _), Said::Refused(2 | 4), Heard::Panicked(_)) if *count != d.count() => {
                 Some("unpack: a wrong node count panics (01: 2, or 4 before it)")
             }
-            (Pack(d, _) | Unpack(d, ..), Said::Refused(4), Heard::Answered(_)) if !d.cleared() && d.marks(126) => {
+            (Pack(d, _) | PackInto(d, ..) | Unpack(d, ..), Said::Refused(4), Heard::Answered(_))
+                if !d.cleared() && d.marks(126) =>
+            {
                 Some("pack, unpack: bit 126 goes as bytes 4032..4063 (01: 4)")
             }
-            (Pack(_, p) | Unpack(_, _, _, p), Said::Refused(2), Heard::Answered(_)) if p.len != PAGE => {
+            (Pack(_, p) | PackInto(_, p, _) | Unpack(_, _, _, p), Said::Refused(2), Heard::Answered(_))
+                if p.len != PAGE =>
+            {
                 Some("pack, unpack: any page that reaches the slots is taken (01: 2)")
             }
-            (Pack(_, p) | Unpack(_, _, _, p), Said::Refused(2), Heard::Panicked(_)) if p.len != PAGE => {
+            (Pack(_, p) | PackInto(_, p, _) | Unpack(_, _, _, p), Said::Refused(2), Heard::Panicked(_))
+                if p.len != PAGE =>
+            {
                 Some("pack, unpack: a page that ends before a slot panics (01: 2)")
             }
             _ => None,
@@ -166,6 +181,12 @@ impl Op for DiffOp {
                 out.extend(p.smaller().into_iter().map(|p| Pack(d, p)));
                 out
             }
+            PackInto(d, p, room) => {
+                let mut out = diffs(d, &|d| PackInto(d, p, room));
+                out.extend(p.smaller().into_iter().map(|p| PackInto(d, p, room)));
+                out.extend(smaller_number(room).into_iter().map(|room| PackInto(d, p, room)));
+                out
+            }
             Unpack(d, w, c, p) => {
                 let mut out = diffs(d, &|d| Unpack(d, w, c, p));
                 out.extend(diffs(d, &|d| Unpack(d, w, d.count(), p)));
@@ -190,6 +211,7 @@ fn every(run: &mut Run, d: Diff) {
 
 fn packs(run: &mut Run, d: Diff, with: u64) {
     run.case::<DiffOp>(Pack(d, page(with)));
+    run.case::<DiffOp>(PackInto(d, page(with), SLOTS as u64));
     run.case::<DiffOp>(Unpack(d, with + 1, d.count(), page(with)));
 }
 
@@ -220,6 +242,9 @@ pub fn exhaustive(run: &mut Run) {
         }
         for len in [0, 1, 31, 32, 4031, 4032, 4055, 4064, 4095, 4096, 4097, 8192] {
             run.case::<DiffOp>(Pack(Diff(d), Filler { len, with: 9 }));
+            for room in [0, 1, 125, 126, 127, 252] {
+                run.case::<DiffOp>(PackInto(Diff(d), Filler { len, with: 9 }, room));
+            }
             run.case::<DiffOp>(Unpack(Diff(d), 3, Diff(d).count(), Filler { len, with: 9 }));
         }
     }
@@ -237,7 +262,7 @@ pub fn random(run: &mut Run, rng: &mut Rng) {
     let slot = if rng.once_in(8) { rng.number() } else { rng.below(130) };
     let with = rng.below(1 << 20);
     let len = if rng.once_in(10) { rng.below(8193) as usize } else { PAGE };
-    let input = match rng.below(12) {
+    let input = match rng.below(14) {
         0 => Read(d),
         1 => Bytes(d),
         2 => Set(d, slot),
@@ -247,6 +272,10 @@ pub fn random(run: &mut Run, rng: &mut Rng) {
         6 => Count(d),
         7 => Join(d, any_diff(rng)),
         8 | 9 => Pack(d, Filler { len, with }),
+        10 | 11 => {
+            let room = if rng.once_in(8) { rng.below(140) } else { SLOTS as u64 };
+            PackInto(d, Filler { len, with }, room)
+        }
         _ => {
             let count = if rng.once_in(8) { rng.below(130) } else { d.count() };
             Unpack(d, rng.below(1 << 20), count, Filler { len, with })
