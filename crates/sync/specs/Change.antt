@@ -1,19 +1,18 @@
 -- 01, 'Sync': what one change does. Assumes nothing.
 use mathlib.Core.Path.{_≡_}
 use mathlib.Core.Bool.{Bool, true, false, cond, _&&_}
-use mathlib.Core.List.{List, [], _∷_, map}
+use mathlib.Core.List.{List, [], _∷_}
 use Prim.Native.Nat.{ℕ, _+_, _-_, _*_, _/_, _^_, _<_, min}
 use lib.Dec.{ltb, eqb}
 use lib.ListN.{length, getD, set}
 use Rattle.answers.specs.Answers.{Answer, given, refused}
 use Rattle.answers.specs.Refusals.{numberOf}
-use Rattle.blocks.specs.Blocks.{block, put}
+use Rattle.blocks.specs.Blocks.{put}
 use Rattle.ht_file.specs.Places.{tagPages, tagsFit}
 use Rattle.meta_map.specs.Tags.{full, kindOf, isKind, fullTag}
-use Rattle.page_diff.specs.Diff.{marked, slots, countOf, reserved}
-use Rattle.page_diff.specs.Pack.{nodeAt}
+use Rattle.page_diff.specs.Diff.{marked, countOf, reserved}
 use Rattle.probe.specs.Path.{allocating, hitLimit}
-use Rattle.wal.specs.Log.{Entry, clear, update, recordOf, clearSize, updateSize}
+use Rattle.wal.specs.Log.{Entry, clear, recordOf, clearSize, updateSize}
 use Rattle.wal.specs.Writer.{position, ifOpen, ifRoom}
 use Rattle.wal.specs.declared.Writer.{Writer}
 use Rattle.wal.specs.declared.Writer.the-variants.{Fresh, Open, Finished}
@@ -28,7 +27,7 @@ use Rattle.sync.specs.declared.Planned.{Planned}
 use Rattle.sync.specs.declared.Planned.the-variants as P
 use Rattle.sync.specs.declared.Outlook.{Outlook}
 use Rattle.sync.specs.declared.Outlook.the-variants as O
-use Rattle.wal_write.specs.Calls.{roomIn}
+use Rattle.wal_write.specs.Calls.{roomIn, pageUpdate}
 use Rattle.sync.specs.declared.Taken.{Taken}
 use Rattle.sync.specs.declared.Taken.the-variants as taken
 
@@ -126,8 +125,7 @@ effectOf st m page c =
 
 -- "a clear is logged"; "An update is logged, with the record's id and the elided bytes that stand in its page"
 abbrev pub updateBy : Change → List ℕ → ℕ → Entry
-updateBy c page b =
-    update (c .id) (c .diff .words) (map (nodeAt page) (slots (c .diff .words))) (block 8 page 4056) b
+updateBy c page b = pageUpdate (c .id) (c .diff .words) page b
 
 abbrev pub entryBy : Change → List ℕ → Effect → Entry
 entryBy c page (cleared b) = clear b
