@@ -178,20 +178,13 @@ module _ (img : List ℕ) (n h : ℕ) (id : List ℕ) where
       go absent e (at-empty b j s q) = absurd (no-empty j (by-then b j s (decLt k j)) (ap (λ (x : ℕ). getD img x 0) (sym (s .here)) ∙ q) (decLt j k))
       go unreached e (at-end p) = absurd (passes-page img n h id (visit n h k) (p k (omega arith) l) page)
 
--- After an allocation, once a page that ends in the id stands in the bucket that was given and the tags are written, a lookup finds that
--- bucket, or one at an earlier visit whose page ends in the same id.
-module _ (limit : ℕ) (ts : List ℕ) (n h b : ℕ) (gave : allocateAnswer limit ts n h ≡ given b) (img id : List ℕ) (fits : imageFits n (length img) ≡ true)
+-- After an allocation at visit k, once a page that ends in the id stands in the bucket that was given and the tags are written, a lookup
+-- finds that bucket, or one at an earlier visit whose page ends in the same id.
+module _ (limit : ℕ) (ts : List ℕ) (n h b k : ℕ) (a : AllocatedAt limit ts n h b k) (img id : List ℕ) (fits : imageFits n (length img) ≡ true)
     (written : (i : ℕ) → i < n → getD img i 0 ≡ getD (allocatedTags limit ts n h) i 0) (stored : pageEnd img n b ≡ id) where
-  pub stored-page : (k : ℕ) × (b ≡ visit n h k)
-      × ((j : ℕ) × (j ≤ k) × HasPage img n h id (visit n h j) × (lookupAnswer img n h id ≡ given (foundAt (visit n h j))))
-  stored-page = (k, a .on-path, found-by img n h id k fits (a .within) (subst (HasPage img n h id) (a .on-path) (written b (a .below) ∙ a .tagged, stored)) full)
+  pub stored-page : (j : ℕ) × (j ≤ k) × HasPage img n h id (visit n h j) × (lookupAnswer img n h id ≡ given (foundAt (visit n h j)))
+  stored-page = found-by img n h id k fits (a .within) (subst (HasPage img n h id) (a .on-path) (written b (a .below) ∙ a .tagged, stored)) full
     where
-      k : ℕ
-      k = allocated-bucket limit ts n h b gave .0
-
-      a : AllocatedAt limit ts n h b k
-      a = allocated-bucket limit ts n h b gave .1
-
       full : (j : ℕ) → j < k → getD img (visit n h j) 0 ≡ 0x00 → ⊥
       full j l z = true≢false (sym (ap (λ (x : Bool). x || isTombstone (getD ts (visit n h j) 0)) (empty-is (getD ts (visit n h j) 0) was)) ∙ a .none-before j l)
         where
@@ -201,15 +194,22 @@ module _ (limit : ℕ) (ts : List ℕ) (n h b : ℕ) (gave : allocateAnswer limi
           was : getD ts (visit n h j) 0 ≡ 0x00
           was = sym (a .others (visit n h j) apart) ∙ sym (written (visit n h j) (visit-below n h j (omega (arith, a .below)))) ∙ z
 
-  -- unless an earlier hit's page ends in the same id, it is the bucket itself
-  pub found-after-allocation : (k : ℕ) × (b ≡ visit n h k)
-      × (((j : ℕ) → j < k → HasPage img n h id (visit n h j) → ⊥) → lookupAnswer img n h id ≡ given (foundAt b))
-  found-after-allocation = (stored-page .0, stored-page .1, go (stored-page .0) (stored-page .1) (stored-page .2))
+  -- it is the bucket itself, where every bucket visited before that has such a page is that bucket
+  pub found-at-visit : ((j : ℕ) → j < k → HasPage img n h id (visit n h j) → visit n h j ≡ b) → lookupAnswer img n h id ≡ given (foundAt b)
+  found-at-visit only = go stored-page
     where
-      go : (k : ℕ) → b ≡ visit n h k → (j : ℕ) × (j ≤ k) × HasPage img n h id (visit n h j) × (lookupAnswer img n h id ≡ given (foundAt (visit n h j)))
-          → ((i : ℕ) → i < k → HasPage img n h id (visit n h i) → ⊥) → lookupAnswer img n h id ≡ given (foundAt b)
-      go k here f first = last (decLt (f .0) k)
+      go : (j : ℕ) × (j ≤ k) × HasPage img n h id (visit n h j) × (lookupAnswer img n h id ≡ given (foundAt (visit n h j))) → lookupAnswer img n h id ≡ given (foundAt b)
+      go f = last (decLt (f .0) k)
         where
           last : Dec (f .0 < k) → lookupAnswer img n h id ≡ given (foundAt b)
-          last (yes d) = absurd (first (f .0) d (f .2))
-          last (no d) = let same : f .0 ≡ k = omega (arith, f .1) in f .3 ∙ ap (λ (x : ℕ). given (foundAt (visit n h x))) same ∙ ap (λ (x : ℕ). given (foundAt x)) (sym here)
+          last (yes d) = f .3 ∙ ap (λ (x : ℕ). given (foundAt x)) (only (f .0) d (f .2))
+          last (no d) = let same : f .0 ≡ k = omega (arith, f .1) in f .3 ∙ ap (λ (x : ℕ). given (foundAt (visit n h x))) same ∙ ap (λ (x : ℕ). given (foundAt x)) (sym (a .on-path))
+
+-- The same of the two calls' answers alone: allocation gave the bucket, no other bucket of the table has the hash's tag and a page that
+-- ends in the id; then lookup answers that bucket.
+pub found-after-allocation : (limit : ℕ) (ts : List ℕ) (n h b : ℕ) → allocateAnswer limit ts n h ≡ given b → (img id : List ℕ) → imageFits n (length img) ≡ true
+    → ((i : ℕ) → i < n → getD img i 0 ≡ getD (allocatedTags limit ts n h) i 0) → pageEnd img n b ≡ id
+    → ((c : ℕ) → c < n → HasPage img n h id c → c ≡ b) → lookupAnswer img n h id ≡ given (foundAt b)
+found-after-allocation limit ts n h b gave img id fits written stored only =
+    let a = allocated-bucket limit ts n h b gave in
+    found-at-visit limit ts n h b (a .0) (a .1) img id fits written stored (λ j l. only (visit n h j) (visit-below n h j (omega (arith, a .1 .below))))
