@@ -15,7 +15,9 @@ use Rattle.wal.specs.declared.Writer.{Writer}
 use Rattle.wal.specs.declared.Writer.the-variants.{Fresh, Open, Finished}
 use Rattle.wal_read.specs.Head.{Seen, aClear, anUpdate, theEnd, aRefusal}
 use Rattle.wal_read.specs.Entry.{Kind, clears, updates, ends, refuses, whatOf, idOf, diffOf, packedOf, elidedOf, nextOf}
-use Rattle.sync.specs.Sync.{SyncSaid, saidDone, saidRefused, saidRefusedAt}
+use Rattle.sync.specs.Change.{Wide, Mem, effectOf, memBy, stateBy, pageNumber}
+use Rattle.sync.specs.Sync.{SyncSaid, saidDone, saidRefused, saidRefusedAt, syncSays, syncWriter, syncMem, widthsBy}
+use Rattle.sync.specs.declared.Change.{Change}
 use Rattle.sync.specs.declared.SyncState.{SyncState}
 use Rattle.recover.specs.Replay.{Did, nothing, stale, applied, Went, cleared, updated, atEnd}
 use Rattle.rehash.specs.Marker.{Counts}
@@ -170,6 +172,17 @@ abbrev pub syncWords : SyncSaid → WriterState → SyncAnswer
 syncWords (saidDone o l) w = synced 0 0 0 o l w
 syncWords (saidRefused k) w = synced k 0 0 0 0 w
 syncWords (saidRefusedAt j k) w = synced k 1 j 0 0 w
+
+-- what the exported step and the exported sync promise: the answer in words, the memory, and the widths that the types give
+pub record StepExport (st : StepState) (m : Mem) (page : List ℕ) (c : Change) (r : StepAnswer) (after : Mem) : Type 0 where
+  pub answer : r ≡ stepWords (pageNumber (stateOf st) (effectOf (stateOf st) m page c)) (stateWords (stateBy (effectOf (stateOf st) m page c) (stateOf st) c))
+  pub memory : after ≡ memBy (effectOf (stateOf st) m page c) (stateOf st) m page c
+  pub wide : Wide c
+
+pub record SyncExport (n : ℕ) (m : Mem) (pages : List ℕ) (cs : List Change) (sync : ℕ) (w : WriterState) (r : SyncAnswer) (after : Mem) : Type 0 where
+  pub answer : r ≡ syncWords (syncSays n m pages cs sync) (writerWords (syncWriter n m pages cs sync (writerOf w)))
+  pub memory : after ≡ syncMem n m pages cs sync
+  pub widths : widthsBy (syncSays n m pages cs sync) cs sync
 
 -- replay: 0 nothing, 1 stale, 2 applied
 abbrev pub replayWords : Answer Did → Words

@@ -18,14 +18,14 @@ ghost use Rattle.wal.specs.Writer.{beginAnswer, beginWriter, beginLog, clearAns
 ghost use Rattle.wal_read.specs.Head.{headOf, headSaid};
 ghost use Rattle.wal_read.specs.Entry.{whatSaid};
 ghost use Rattle.wal_write.specs.Calls.{clearWriter, clearLog, updateWriter, updateLog, packIntoAnswer, packedInto};
-ghost use Rattle.sync.specs.Change.{memOf, takenSaid, pageNumber, effectOf, memBy, stateBy};
-ghost use Rattle.sync.specs.Sync.{syncSays, syncWriter, syncMem, syncedSaid};
+ghost use Rattle.sync.specs.Change.{memOf, takenSaid};
+ghost use Rattle.sync.specs.Sync.{syncedSaid};
 ghost use Rattle.recover.specs.Replay.{replayAnswer, replayImage, stepAnswer, stepImage, recoveredSaid, steppedSaid};
 ghost use Rattle.rehash.specs.Marker.{writeAnswer as writeMarkerAnswer, writtenMarker, readAnswer as readMarkerAnswer, markerSaid};
 ghost use Rattle.rehash.specs.Pending.{pendingAnswer, decisionSaid};
 ghost use Rattle.rehash.specs.Growth.{growthAnswer, growthImage, grownSaid};
 ghost use Rattle.validate.specs.Audit.{auditAnswer, auditedSaid};
-ghost use Rattle.bitbox.specs.Words.{refusalOf, words, outcomeWords, numberWords, truthWords, probeWords, lookupWords, entryRefusal, entryKind, entryBucket, Read, headWords, writerOf, writerWords, writtenWords, finishedWords, stateOf, stateWords, stepWords, syncWords, replayWords, wentWords, markerWords, leftWords, growthWords, auditWords, pair};
+ghost use Rattle.bitbox.specs.Words.{refusalOf, words, outcomeWords, numberWords, truthWords, probeWords, lookupWords, entryRefusal, entryKind, entryBucket, Read, headWords, writerOf, writerWords, writtenWords, finishedWords, stateOf, stateWords, stepWords, syncWords, StepExport, SyncExport, replayWords, wentWords, markerWords, leftWords, growthWords, auditWords, pair};
 use answers::Number;
 use answers::Outcome;
 use answers::Refusal;
@@ -953,7 +953,7 @@ pub extern "C" fn bitbox_sync_step(
     c: Change,
     st: StepState,
 ) -> StepAnswer
-    ensures { λ r. ⌜ (r ≡ stepWords (pageNumber (stateOf st) (effectOf (stateOf st) (memOf (now (tags .entry)) (now (marks .entry)) (now (cells .entry)) (now (log .entry))) (now (page .entry)) c)) (stateWords (stateBy (effectOf (stateOf st) (memOf (now (tags .entry)) (now (marks .entry)) (now (cells .entry)) (now (log .entry))) (now (page .entry)) c) (stateOf st) c))) × (memOf (now (tags .exit)) (now (marks .exit)) (now (cells .exit)) (now (log .exit)) ≡ memBy (effectOf (stateOf st) (memOf (now (tags .entry)) (now (marks .entry)) (now (cells .entry)) (now (log .entry))) (now (page .entry)) c) (stateOf st) (memOf (now (tags .entry)) (now (marks .entry)) (now (cells .entry)) (now (log .entry))) (now (page .entry)) c) ⌝ }
+    ensures { λ r. ⌜ StepExport st (memOf (now (tags .entry)) (now (marks .entry)) (now (cells .entry)) (now (log .entry))) (now (page .entry)) c r (memOf (now (tags .exit)) (now (marks .exit)) (now (cells .exit)) (now (log .exit))) ⌝ }
 {
     let s = sync::step(tags, marks, cells, log, page, c, state_of(st));
     let t = s.taken;
@@ -995,7 +995,7 @@ pub extern "C" fn bitbox_sync(
     w: WriterState,
     sync_seqn: u32,
 ) -> SyncAnswer
-    ensures { λ r. ⌜ (r ≡ syncWords (syncSays n (memOf (now (tags .entry)) (now (marks .entry)) (now (cells .entry)) (now (log .entry))) (now (pages .entry)) (now (changes .entry)) «sync_seqn») (writerWords (syncWriter n (memOf (now (tags .entry)) (now (marks .entry)) (now (cells .entry)) (now (log .entry))) (now (pages .entry)) (now (changes .entry)) «sync_seqn» (writerOf w)))) × (memOf (now (tags .exit)) (now (marks .exit)) (now (cells .exit)) (now (log .exit)) ≡ syncMem n (memOf (now (tags .entry)) (now (marks .entry)) (now (cells .entry)) (now (log .entry))) (now (pages .entry)) (now (changes .entry)) «sync_seqn») ⌝ }
+    ensures { λ r. ⌜ SyncExport n (memOf (now (tags .entry)) (now (marks .entry)) (now (cells .entry)) (now (log .entry))) (now (pages .entry)) (now (changes .entry)) «sync_seqn» w r (memOf (now (tags .exit)) (now (marks .exit)) (now (cells .exit)) (now (log .exit))) ⌝ }
 {
     of_sync(sync::sync(
         tags,

@@ -6,6 +6,8 @@ pub mod Logged
 pub mod Occupied
 pub mod OneAnswer
 pub mod Plans
+pub mod Promises
+pub mod Refused
 pub mod Replayed
 pub mod Shared
 pub mod StartLaws
@@ -13,3 +15,4 @@ pub mod StepLaws
 pub mod SyncLaws
 pub mod Untouched
 pub mod WalkLaws
+pub mod Widths

@@ -7,6 +7,7 @@ use native.Mathlib.Omega.{arith}
 use lib.Dec.{eqb}
 use lib.ListN.{length, getD, take}
 use denote.Enum.Declared.{tagOf}
+use borrow.Author.Tests.{eqb-true}
 use Rattle.answers.specs.Answers.{Answer, given, refused, accepted}
 use Rattle.answers.proofs.Laws.{given-one, given-refused}
 use Rattle.ht_file.specs.Places.{tagsFit, tagPages}
@@ -24,7 +25,7 @@ use Rattle.wal.proofs.Writer as WriterT
 use Rattle.wal.proofs.RoundTrip.{run-made, finish-fits, round-trip-start, round-trip}
 use Rattle.wal_write.specs.Calls.{roomIn, clearWriter, pageUpdate, pageUpdateWriter}
 use Rattle.wal_write.proofs.PageUpdates.{run-page}
-use Rattle.sync.specs.Change.{Mem, memOf, doesOf, Effect, cleared, updated, allocated, bucketOf, effectOf, entryBy, memBy, stateBy}
+use Rattle.sync.specs.Change.{Wide, AllWide, none-wide, more-wide, Mem, memOf, doesOf, Effect, cleared, updated, allocated, bucketOf, effectOf, entryBy, memBy, stateBy}
 use Rattle.sync.specs.Sync.{pageOf, Came, through, refusedAt, orRest, orMem, changeAt, changeMem, allOf, memAll, entriesBy, entriesOf, beforeChanges, startMem, startState, saidDone, saidFinish, saidBy, saidIf, keptIf, logAfter, came, left, syncSays, syncMem}
 use Rattle.sync.specs.declared.Change.{Change}
 use Rattle.sync.specs.declared.SyncState.{SyncState}
@@ -33,19 +34,8 @@ use Rattle.sync.proofs.Plans.{does-clears, does-updates, does-allocates
 use Rattle.sync.proofs.StartLaws.{begun-open}
 use Rattle.sync.proofs.StepLaws.{Opened, clear-taken, page-taken, clear-state, clear-bytes, page-state, page-bytes}
 
--- the widths of a change's parts, which their types give
-pub record Sized (c : Change) : Type 0 where
-  pub id-long : length (c .id) ≡ 32
-  pub two-words : length (c .diff .words) ≡ 2
-  pub low-word : getD (c .diff .words) 0 0 < 2 ^ 64
-  pub high-word : getD (c .diff .words) 1 0 < 2 ^ 64
-
-pub data AllSized : List Change → Type 0 where
-  none : AllSized []
-  more : {c : Change} {cs : List Change} → Sized c → AllSized cs → AllSized (c ∷ cs)
-
 -- one accepted change is one more call of the run
-module _ (log₀ : List ℕ) (sync : ℕ) (st : SyncState) (m : Mem) (page : List ℕ) (c : Change) (es : List Entry) (run : Run log₀ sync (st .writer) (m .log) es) (sized : Sized c) where
+module _ (log₀ : List ℕ) (sync : ℕ) (st : SyncState) (m : Mem) (page : List ℕ) (c : Change) (es : List Entry) (run : Run log₀ sync (st .writer) (m .log) es) (sized : Wide c) where
   abbrev w : Writer
   w = st .writer
 
@@ -96,10 +86,10 @@ Runs log₀ sync pages cs =
     (m : Mem) (j : ℕ) (st : SyncState) (es : List Entry) → Run log₀ sync (st .writer) (m .log) es
     → Run log₀ sync (allOf m pages cs j st .state .writer) (memAll m pages cs j st .log) (es ++ entriesOf m pages cs j st)
 
-pub all-logged : (log₀ : List ℕ) (sync : ℕ) (pages : List ℕ) (cs : List Change) → AllSized cs → Runs log₀ sync pages cs
+pub all-logged : (log₀ : List ℕ) (sync : ℕ) (pages : List ℕ) (cs : List Change) → AllWide cs → Runs log₀ sync pages cs
 unfolding allOf memAll changeAt changeMem entriesOf
-all-logged log₀ sync pages [] none m j st es run = subst (Run log₀ sync (st .writer) (m .log)) (sym (append-nil es)) run
-all-logged log₀ sync pages (c ∷ cs) (more z zs) m j st es run = go (effectOf st m (pageOf pages j) c) refl (all-logged log₀ sync pages cs zs)
+all-logged log₀ sync pages [] none-wide m j st es run = subst (Run log₀ sync (st .writer) (m .log)) (sym (append-nil es)) run
+all-logged log₀ sync pages (c ∷ cs) (more-wide z zs) m j st es run = go (effectOf st m (pageOf pages j) c) refl (all-logged log₀ sync pages cs zs)
   where
     go : (e : Answer Effect) → effectOf st m (pageOf pages j) c ≡ e → Runs log₀ sync pages cs
         → Run log₀ sync (orRest (changeAt m pages c j st .came) (changeAt m pages c j st) (allOf (changeMem m pages c j st) pages cs (j + 1) (changeAt m pages c j st .state)) .state .writer)
@@ -125,18 +115,22 @@ done-parts (refused k) c st m o len h = let z : _≡_ {A = ℕ} 0 1 = cc in absu
 done-parts (given u) (refusedAt j k) st m o len h = let z : _≡_ {A = ℕ} 0 1 = cc in absurd (omega arith)
 done-parts (given u) (through j) st m o len h = (refl, finish-told (finishAnswer (m .log) (st .writer)) (st .occupied) o len h, refl)
 
-passed : (f g : Bool) (a : Answer (Unit {0})) → cond f (cond g a (refused 2)) (refused 1) ≡ given tt → a ≡ given tt
-passed true true a h = h
-passed true false a h = absurd (given-refused tt 2 (sym h))
-passed false g a h = absurd (given-refused tt 1 (sym h))
+-- what a sync that has begun passed: every test before the first change
+passed : (f g h : Bool) (a : Answer (Unit {0})) → cond f (cond (g && h) a (refused 2)) (refused 1) ≡ given tt → (f ≡ true) × (g ≡ true) × (h ≡ true) × (a ≡ given tt)
+passed true true true a e = (refl, refl, refl, e)
+passed true true false a e = absurd (given-refused tt 2 (sym e))
+passed true false h a e = absurd (given-refused tt 2 (sym e))
+passed false g h a e = absurd (given-refused tt 1 (sym e))
 
-begin-passed : (n : ℕ) (m : Mem) (pages : List ℕ) (count : ℕ) → beforeChanges n m pages count ≡ given tt → beginAnswer (m .log) ≡ given tt
+pub start-passed : (n : ℕ) (m : Mem) (pages : List ℕ) (count : ℕ) → beforeChanges n m pages count ≡ given tt
+    → (tagsFit n (length (m .tags)) ≡ true) × (length pages ≡ 4096 * count) × (length (m .marks) ≡ tagPages n) × (beginAnswer (m .log) ≡ given tt)
 unfolding beforeChanges
-begin-passed n m pages count h =
-    passed (tagsFit n (length (m .tags))) (eqb (length pages) (4096 * count) && eqb (length (m .marks)) (tagPages n)) (beginAnswer (m .log)) h
+start-passed n m pages count h =
+    let q = passed (tagsFit n (length (m .tags))) (eqb (length pages) (4096 * count)) (eqb (length (m .marks)) (tagPages n)) (beginAnswer (m .log)) h in
+    (q .0, eqb-true (length pages) (4096 * count) (q .1), eqb-true (length (m .marks)) (tagPages n) (q .2), q .3)
 
 -- the whole: its log starts the slice, has the length that is answered, and reads back
-module _ (n : ℕ) (m : Mem) (pages : List ℕ) (cs : List Change) (sync o len : ℕ) (sized : AllSized cs) (h : syncSays n m pages cs sync ≡ saidDone o len) where
+module _ (n : ℕ) (m : Mem) (pages : List ℕ) (cs : List Change) (sync o len : ℕ) (sized : AllWide cs) (h : syncSays n m pages cs sync ≡ saidDone o len) where
   abbrev pub entries : List Entry
   entries = entriesOf (startMem m sync) pages cs 0 (startState n m)
 
@@ -150,24 +144,24 @@ module _ (n : ℕ) (m : Mem) (pages : List ℕ) (cs : List Change) (sync o len :
   unfolding syncSays
   parts = done-parts (beforeChanges n m pages (length cs)) (came n m pages cs sync .came) end last o len h
 
-  pub sync-run : Run (m .log) sync (end .writer) (last .log) entries
-  sync-run =
-      let ok = begin-passed n m pages (length cs) (parts .0) in
+  pub done-run : Run (m .log) sync (end .writer) (last .log) entries
+  done-run =
+      let ok = start-passed n m pages (length cs) (parts .0) .3 in
       all-logged (m .log) sync pages cs sized (startMem m sync) 0 (startState n m) []
       (subst (λ (x : Writer). Run (m .log) sync x (beginLog (m .log) sync) []) (begun-open (m .log) sync ok) (begun Fresh (ap accepted ok)))
 
-  pub sync-length : len ≡ finishedLength (startSize + length (recordsOf entries))
-  sync-length = given-one len (finishedLength (startSize + length (recordsOf entries))) (sym (parts .1) ∙ finish-fits (m .log) sync (end .writer) (last .log) entries sync-run)
+  pub done-length : len ≡ finishedLength (startSize + length (recordsOf entries))
+  done-length = given-one len (finishedLength (startSize + length (recordsOf entries))) (sym (parts .1) ∙ finish-fits (m .log) sync (end .writer) (last .log) entries done-run)
 
-  pub sync-log : syncMem n m pages cs sync .log ≡ finishLog (last .log) (end .writer)
+  pub done-log : syncMem n m pages cs sync .log ≡ finishLog (last .log) (end .writer)
   unfolding syncMem
-  sync-log =
+  done-log =
       ap (λ (b : Answer (Unit {0})). keptIf b m (memOf (last .tags) (last .marks) (last .cells) (logAfter (came n m pages cs sync .came) end last)) .log) (parts .0) ∙ parts .2
 
-  pub sync-reads-start : sync < 2 ^ 32 → startOf (take len (syncMem n m pages cs sync .log)) ≡ given sync
-  sync-reads-start s =
-      ap₂ (λ (k : ℕ) (x : List ℕ). startOf (take k x)) sync-length sync-log ∙ round-trip-start (m .log) sync (end .writer) (last .log) entries sync-run s
+  pub done-start : sync < 2 ^ 32 → startOf (take len (syncMem n m pages cs sync .log)) ≡ given sync
+  done-start s =
+      ap₂ (λ (k : ℕ) (x : List ℕ). startOf (take k x)) done-length done-log ∙ round-trip-start (m .log) sync (end .writer) (last .log) entries done-run s
 
-  pub sync-reads-back : readLog (take len (syncMem n m pages cs sync .log)) ≡ record { entries = entries; at = startSize + length (recordsOf entries); stop = given tt }
-  sync-reads-back =
-      ap₂ (λ (k : ℕ) (x : List ℕ). readLog (take k x)) sync-length sync-log ∙ round-trip (m .log) sync (end .writer) (last .log) entries sync-run
+  pub done-back : readLog (take len (syncMem n m pages cs sync .log)) ≡ record { entries = entries; at = startSize + length (recordsOf entries); stop = given tt }
+  done-back =
+      ap₂ (λ (k : ℕ) (x : List ℕ). readLog (take k x)) done-length done-log ∙ round-trip (m .log) sync (end .writer) (last .log) entries done-run

@@ -21,24 +21,7 @@ use Rattle.sync.specs.Sync.{pageOf, Came, through, refusedAt, orRest, or
 use Rattle.sync.specs.declared.Change.{Change}
 use Rattle.sync.specs.declared.SyncState.{SyncState}
 use Rattle.sync.proofs.Accepted.{after-cleared, after-allocated, accepted-change}
-use Rattle.sync.proofs.Plans.{past-spare, does-clears}
-
--- a named bucket that is to be cleared has a full tag
-named-bucket : (cl t u : Bool) (x b : ℕ) → cond t (cond u (given (doesWith cl x)) (refused 14)) (refused 9) ≡ given (clears b) → (cl ≡ true) × (u ≡ true) × (x ≡ b)
-named-bucket true true true x b r = (refl, refl, cc)
-named-bucket false true true x b r = let z : _≡_ {A = ℕ} 0 1 = cc in absurd (omega arith)
-named-bucket true true false x b r = let z : _≡_ {A = ℕ} 0 1 = cc in absurd (omega arith)
-named-bucket false true false x b r = let z : _≡_ {A = ℕ} 0 1 = cc in absurd (omega arith)
-named-bucket true false u x b r = let z : _≡_ {A = ℕ} 0 1 = cc in absurd (omega arith)
-named-bucket false false u x b r = let z : _≡_ {A = ℕ} 0 1 = cc in absurd (omega arith)
-
-named-full : (cl : Bool) (n : ℕ) (tags : List ℕ) (h : ℕ) (a : Answer Named) (b : ℕ) → byNamed cl n tags h a ≡ given (clears b) → isKind full (kindOf (getD tags b 0)) ≡ true
-named-full cl n tags h (refused k) b e = let z : _≡_ {A = ℕ} 0 1 = cc in absurd (omega arith)
-named-full true n tags h (given none) b e = let z : _≡_ {A = ℕ} 0 1 = cc in absurd (omega arith)
-named-full false n tags h (given none) b e = let z : _≡_ {A = ℕ} 0 1 = cc in absurd (omega arith)
-named-full cl n tags h (given (bucket x)) b e =
-    let q = named-bucket cl (ltb x n) (tagFits cl h (getD tags x 0)) x b e in
-    sym (ap (λ (y : ℕ). isKind full (kindOf (getD tags y 0))) (q .2)) ∙ sym (ap (λ (y : Bool). tagFits y h (getD tags x 0)) (q .0)) ∙ q .1
+use Rattle.sync.proofs.Plans.{Told, as-clear, does-told, does-clears}
 
 -- a bucket that is free is not full
 free-not-full : (k : Kind) → isKind empty k || isKind tombstone k ≡ true → isKind full k ≡ false
@@ -46,6 +29,13 @@ free-not-full empty h = refl
 free-not-full tombstone h = refl
 free-not-full full h = let z : _≡_ {A = ℕ} 0 1 = cc in absurd (omega arith)
 free-not-full other h = refl
+
+-- a bucket that is to be cleared has a full tag
+cleared-full : (st : SyncState) (m : Mem) (c : Change) (b : ℕ) → doesOf (st .n) (m .tags) (m .cells) c ≡ given (clears b) → isKind full (kindOf (getD (m .tags) b 0)) ≡ true
+cleared-full st m c b e = go (does-told (st .n) (m .tags) (m .cells) c (clears b) e)
+  where
+    go : Told (st .n) (m .tags) (c .hash) (marked (c .diff .words) 127) (clears b) → isKind full (kindOf (getD (m .tags) b 0)) ≡ true
+    go (as-clear l s q) = q
 
 module _ (st : SyncState) (m : Mem) (page : List ℕ) (c : Change) where
   -- after a change, accepted or refused
@@ -57,7 +47,7 @@ module _ (st : SyncState) (m : Mem) (page : List ℕ) (c : Change) where
       let f = tags-fit-facts (st .n) (length (m .tags)) (a .0) in
       let d = after-cleared st m c (doesOf (st .n) (m .tags) (m .cells) c) b (a .2) .0 in
       let l = does-clears (st .n) (m .tags) (m .cells) c b d in
-      let k = named-full (marked (c .diff .words) 127) (st .n) (m .tags) (c .hash) (namedBy (whereOf (c .place)) (m .cells)) b (past-spare (st .n) (m .tags) (m .cells) c (clears b) d .1) in
+      let k = cleared-full st m c b d in
       omega (arith, count-set full (m .tags) b 0x7F (st .n) l (omega arith), ap one k)
   occupied-kept (given (allocated b)) h o =
       let a = accepted-change st m page c (allocated b) h in
@@ -95,9 +85,9 @@ said-done (given u) (refusedAt j k) st l o len h = let z : _≡_ {A = ℕ} 0 1 =
 said-done (given u) (through j) st l o len h = (refl, finish-done (finishAnswer (l .log) (st .writer)) (st .occupied) o len h)
 
 -- the whole: "answers occupied", the number of full tags that it leaves
-pub sync-occupied : (n : ℕ) (m : Mem) (pages : List ℕ) (cs : List Change) (sync o len : ℕ) → syncSays n m pages cs sync ≡ saidDone o len → o ≡ countOf full (syncMem n m pages cs sync .tags) n
+pub done-occupied : (n : ℕ) (m : Mem) (pages : List ℕ) (cs : List Change) (sync o len : ℕ) → syncSays n m pages cs sync ≡ saidDone o len → o ≡ countOf full (syncMem n m pages cs sync .tags) n
 unfolding syncSays syncMem
-sync-occupied n m pages cs sync o len h =
+done-occupied n m pages cs sync o len h =
     let a = came n m pages cs sync in
     let l = left n m pages cs sync in
     let d = said-done (beforeChanges n m pages (length cs)) (a .came) (a .state) l o len h in

@@ -1,5 +1,5 @@
 -- What a change is to do, test by test. Assumes nothing.
-use mathlib.Core.Path.{_≡_, refl, sym, ap, ap₂, _∙_}
+use mathlib.Core.Path.{_≡_, refl, sym, ap, ap₂, _∙_, subst}
 use mathlib.Core.Logic.{_⊎_, ⊎-elim}
 use mathlib.Core.Bool.{Bool, true, false, cond, _||_, true≢false}
 use mathlib.Core.List.{List, [], _∷_}
@@ -13,6 +13,7 @@ use borrow.Author.Tests.{ltb-true}
 use Rattle.answers.specs.Answers.{Answer, given, refused, truthSaid}
 use Rattle.answers.specs.declared.Truth.{Truth}
 use Rattle.answers.specs.declared.Truth.the-variants as truth
+use Rattle.answers.proofs.Laws.{given-one, given-refused}
 use Rattle.answers.proofs.Truth as TruthT
 use Rattle.page_diff.specs.Diff.{marked, reserved, askAnswer}
 use Rattle.sync.specs.Change.{whereOf, placeOf, Named, bucket, none, namedBy, nameSaid, tagFits, Does, clears, updates, allocates, doesWith, byNamed, doesOf, cellsAt}
@@ -79,69 +80,26 @@ no-name (N.Refused r) o q = absurd (out 2 refl o)
     out t z = ⊎-elim (λ (p : t ≡ 0). omega arith) (λ (p : t ≡ 1). omega arith)
 
 -- ---- what an accepted plan rests on
-module _ (n : ℕ) (tags : List ℕ) (h : ℕ) where
-  named-clears : (cl : Bool) (a : Answer Named) (b : ℕ) → byNamed cl n tags h a ≡ given (clears b) → b < n
-  named-clears cl (refused k) b e = let z : _≡_ {A = ℕ} 0 1 = cc in absurd (omega arith)
-  named-clears cl (given (bucket x)) b e = go (ltb x n) refl (tagFits cl h (getD tags x 0)) refl cl e
-    where
-      go : (t : Bool) → ltb x n ≡ t → (u : Bool) → tagFits cl h (getD tags x 0) ≡ u → (v : Bool)
-          → cond (ltb x n) (cond (tagFits cl h (getD tags x 0)) (given (doesWith v x)) (refused 14)) (refused 9) ≡ given (clears b) → b < n
-      go true p true q true r =
-          let z : given (clears x) ≡ given (clears b) = sym (ap₂ (λ (t u : Bool). cond t (cond u (given (clears x)) (refused 14)) (refused 9)) p q) ∙ r in
-          let y : x ≡ b = cc in omega (arith, ltb-true x n p)
-      go true p true q false r =
-          let z : given (updates x) ≡ given (clears b) = sym (ap₂ (λ (t u : Bool). cond t (cond u (given (updates x)) (refused 14)) (refused 9)) p q) ∙ r in
-          let y : _≡_ {A = ℕ} 0 1 = cc in absurd (omega arith)
-      go true p false q v r =
-          let z : refused 14 ≡ given (clears b) = sym (ap₂ (λ (t u : Bool). cond t (cond u (given (doesWith v x)) (refused 14)) (refused 9)) p q) ∙ r in
-          let y : _≡_ {A = ℕ} 0 1 = cc in absurd (omega arith)
-      go false p u q v r =
-          let z : refused 9 ≡ given (clears b) = sym (ap (λ (t : Bool). cond t (cond (tagFits cl h (getD tags x 0)) (given (doesWith v x)) (refused 14)) (refused 9)) p) ∙ r in
-          let y : _≡_ {A = ℕ} 0 1 = cc in absurd (omega arith)
-  named-clears true (given none) b e = let z : _≡_ {A = ℕ} 0 1 = cc in absurd (omega arith)
-  named-clears false (given none) b e = let z : _≡_ {A = ℕ} 0 1 = cc in absurd (omega arith)
+-- a named bucket is inside the table and has the tag that the rule asks for; only a clearing change clears
+pub data Told (n : ℕ) (tags : List ℕ) (h : ℕ) (clearing : Bool) : Does → Type 0 where
+  as-clear : {b : ℕ} → b < n → clearing ≡ true → tagFits true h (getD tags b 0) ≡ true → Told n tags h clearing (clears b)
+  as-update : {b : ℕ} → b < n → clearing ≡ false → tagFits false h (getD tags b 0) ≡ true → Told n tags h clearing (updates b)
+  as-new : clearing ≡ false → Told n tags h clearing allocates
 
-  named-updates : (cl : Bool) (a : Answer Named) (b : ℕ) → byNamed cl n tags h a ≡ given (updates b) → (b < n) × (cl ≡ false)
-  named-updates cl (refused k) b e = let z : _≡_ {A = ℕ} 0 1 = cc in absurd (omega arith)
-  named-updates cl (given (bucket x)) b e = go (ltb x n) refl (tagFits cl h (getD tags x 0)) refl cl refl e
-    where
-      go : (t : Bool) → ltb x n ≡ t → (u : Bool) → tagFits cl h (getD tags x 0) ≡ u → (v : Bool) → cl ≡ v
-          → cond (ltb x n) (cond (tagFits cl h (getD tags x 0)) (given (doesWith v x)) (refused 14)) (refused 9) ≡ given (updates b) → (b < n) × (cl ≡ false)
-      go true p true q false s r =
-          let z : given (updates x) ≡ given (updates b) = sym (ap₂ (λ (t u : Bool). cond t (cond u (given (updates x)) (refused 14)) (refused 9)) p q) ∙ r in
-          let y : x ≡ b = cc in (omega (arith, ltb-true x n p), s)
-      go true p true q true s r =
-          let z : given (clears x) ≡ given (updates b) = sym (ap₂ (λ (t u : Bool). cond t (cond u (given (clears x)) (refused 14)) (refused 9)) p q) ∙ r in
-          let y : _≡_ {A = ℕ} 0 1 = cc in absurd (omega arith)
-      go true p false q v s r =
-          let z : refused 14 ≡ given (updates b) = sym (ap₂ (λ (t u : Bool). cond t (cond u (given (doesWith v x)) (refused 14)) (refused 9)) p q) ∙ r in
-          let y : _≡_ {A = ℕ} 0 1 = cc in absurd (omega arith)
-      go false p u q v s r =
-          let z : refused 9 ≡ given (updates b) = sym (ap (λ (t : Bool). cond t (cond (tagFits cl h (getD tags x 0)) (given (doesWith v x)) (refused 14)) (refused 9)) p) ∙ r in
-          let y : _≡_ {A = ℕ} 0 1 = cc in absurd (omega arith)
-  named-updates true (given none) b e = let z : _≡_ {A = ℕ} 0 1 = cc in absurd (omega arith)
-  named-updates false (given none) b e = let z : _≡_ {A = ℕ} 0 1 = cc in absurd (omega arith)
+named-told : (n : ℕ) (tags : List ℕ) (h : ℕ) (cl : Bool) (a : Answer Named) (d : Does) → byNamed cl n tags h a ≡ given d → Told n tags h cl d
+named-told n tags h cl (refused k) d e = absurd (given-refused d k (sym e))
+named-told n tags h true (given none) d e = absurd (given-refused d 14 (sym e))
+named-told n tags h false (given none) d e = subst (Told n tags h false) (given-one allocates d e) (as-new refl)
+named-told n tags h cl (given (bucket x)) d e = go (ltb x n) refl (tagFits cl h (getD tags x 0)) refl e
+  where
+    kind : (v : Bool) → cl ≡ v → x < n → tagFits cl h (getD tags x 0) ≡ true → Told n tags h cl (doesWith v x)
+    kind true s l q = as-clear l s (sym (ap (λ (y : Bool). tagFits y h (getD tags x 0)) s) ∙ q)
+    kind false s l q = as-update l s (sym (ap (λ (y : Bool). tagFits y h (getD tags x 0)) s) ∙ q)
 
-  named-allocates : (cl : Bool) (a : Answer Named) → byNamed cl n tags h a ≡ given allocates → cl ≡ false
-  named-allocates cl (refused k) e = let z : _≡_ {A = ℕ} 0 1 = cc in absurd (omega arith)
-  named-allocates cl (given (bucket x)) e = go (ltb x n) refl (tagFits cl h (getD tags x 0)) refl cl e
-    where
-      go : (t : Bool) → ltb x n ≡ t → (u : Bool) → tagFits cl h (getD tags x 0) ≡ u → (v : Bool)
-          → cond (ltb x n) (cond (tagFits cl h (getD tags x 0)) (given (doesWith v x)) (refused 14)) (refused 9) ≡ given allocates → cl ≡ false
-      go true p true q true r =
-          let z : given (clears x) ≡ given allocates = sym (ap₂ (λ (t u : Bool). cond t (cond u (given (clears x)) (refused 14)) (refused 9)) p q) ∙ r in
-          let y : _≡_ {A = ℕ} 0 1 = cc in absurd (omega arith)
-      go true p true q false r =
-          let z : given (updates x) ≡ given allocates = sym (ap₂ (λ (t u : Bool). cond t (cond u (given (updates x)) (refused 14)) (refused 9)) p q) ∙ r in
-          let y : _≡_ {A = ℕ} 0 1 = cc in absurd (omega arith)
-      go true p false q v r =
-          let z : refused 14 ≡ given allocates = sym (ap₂ (λ (t u : Bool). cond t (cond u (given (doesWith v x)) (refused 14)) (refused 9)) p q) ∙ r in
-          let y : _≡_ {A = ℕ} 0 1 = cc in absurd (omega arith)
-      go false p u q v r =
-          let z : refused 9 ≡ given allocates = sym (ap (λ (t : Bool). cond t (cond (tagFits cl h (getD tags x 0)) (given (doesWith v x)) (refused 14)) (refused 9)) p) ∙ r in
-          let y : _≡_ {A = ℕ} 0 1 = cc in absurd (omega arith)
-  named-allocates true (given none) e = let z : _≡_ {A = ℕ} 0 1 = cc in absurd (omega arith)
-  named-allocates false (given none) e = refl
+    go : (t : Bool) → ltb x n ≡ t → (u : Bool) → tagFits cl h (getD tags x 0) ≡ u → cond t (cond u (given (doesWith cl x)) (refused 14)) (refused 9) ≡ given d → Told n tags h cl d
+    go true p true q r = subst (Told n tags h cl) (given-one (doesWith cl x) d r) (kind cl refl (ltb-true x n p) q)
+    go true p false q r = absurd (given-refused d 14 (sym r))
+    go false p u q r = absurd (given-refused d 9 (sym r))
 
 module _ (n : ℕ) (tags cells : List ℕ) (c : Change) where
   -- an accepted plan has no bit 126
@@ -157,16 +115,23 @@ module _ (n : ℕ) (tags cells : List ℕ) (c : Change) where
           let y : _≡_ {A = ℕ} 0 1 = cc in absurd (omega arith)
       go false p r = (p, sym (ap (λ (b : Bool). cond b (refused 4) (byNamed (marked (c .diff .words) 127) n tags (c .hash) (namedBy (whereOf (c .place)) cells))) p) ∙ r)
 
+  pub does-told : (d : Does) → doesOf n tags cells c ≡ given d → Told n tags (c .hash) (marked (c .diff .words) 127) d
+  does-told d e = named-told n tags (c .hash) (marked (c .diff .words) 127) (namedBy (whereOf (c .place)) cells) d (past-spare d e .1)
+
   pub does-clears : (b : ℕ) → doesOf n tags cells c ≡ given (clears b) → b < n
-  does-clears b e = named-clears n tags (c .hash) (marked (c .diff .words) 127) (namedBy (whereOf (c .place)) cells) b (past-spare (clears b) e .1)
+  does-clears b e = go (does-told (clears b) e)
+    where
+      go : Told n tags (c .hash) (marked (c .diff .words) 127) (clears b) → b < n
+      go (as-clear l s q) = l
 
   pub does-updates : (b : ℕ) → doesOf n tags cells c ≡ given (updates b) → (b < n) × (reserved (c .diff .words) ≡ false)
-  does-updates b e =
-      let p = past-spare (updates b) e in
-      let q = named-updates n tags (c .hash) (marked (c .diff .words) 127) (namedBy (whereOf (c .place)) cells) b (p .1) in
-      (q .0, ap₂ _||_ (p .0) (q .1))
+  does-updates b e = go (does-told (updates b) e)
+    where
+      go : Told n tags (c .hash) (marked (c .diff .words) 127) (updates b) → (b < n) × (reserved (c .diff .words) ≡ false)
+      go (as-update l s q) = (l, ap₂ _||_ (past-spare (updates b) e .0) s)
 
   pub does-allocates : doesOf n tags cells c ≡ given allocates → reserved (c .diff .words) ≡ false
-  does-allocates e =
-      let p = past-spare allocates e in
-      ap₂ _||_ (p .0) (named-allocates n tags (c .hash) (marked (c .diff .words) 127) (namedBy (whereOf (c .place)) cells) (p .1))
+  does-allocates e = go (does-told allocates e)
+    where
+      go : Told n tags (c .hash) (marked (c .diff .words) 127) allocates → reserved (c .diff .words) ≡ false
+      go (as-new s) = ap₂ _||_ (past-spare allocates e .0) s

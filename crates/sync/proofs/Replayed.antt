@@ -12,12 +12,12 @@ use Rattle.probe.specs.Path.{allocating, hitLimit, allocateAnswer}
 use Rattle.probe.proofs.Allocating.{answer-below}
 use Rattle.recover.specs.Replay.{applied, allInside, updatesIn, replayAnswer}
 use Rattle.recover.proofs.Acceptance.{finished-accepted}
-use Rattle.sync.specs.Change.{Mem, doesOf, Effect, cleared, updated, allocated, bucketOf, effectOf, entryBy, memBy, stateBy}
+use Rattle.sync.specs.Change.{AllWide, Mem, doesOf, Effect, cleared, updated, allocated, bucketOf, effectOf, entryBy, memBy, stateBy}
 use Rattle.sync.specs.Sync.{pageOf, changeAt, changeMem, entriesBy, entriesOf, startMem, startState, saidDone, came, left, syncSays, syncMem}
 use Rattle.sync.specs.declared.Change.{Change}
 use Rattle.sync.specs.declared.SyncState.{SyncState}
 use Rattle.sync.proofs.Accepted.{after-cleared, after-updated, after-allocated, accepted-change}
-use Rattle.sync.proofs.Logged.{AllSized, entries, sync-run, sync-length, sync-log}
+use Rattle.sync.proofs.Logged.{entries, done-run, done-length, done-log}
 use Rattle.sync.proofs.Plans.{does-clears, does-updates}
 use Rattle.sync.proofs.Untouched.{entry-bucket}
 
@@ -48,10 +48,10 @@ all-inside pages (c ∷ cs) m j st = go (effectOf st m (pageOf pages j) c) refl 
         ap₂ _&&_ (ap (λ (b : ℕ). ltb b (st .n)) (entry-bucket c (pageOf pages j) e) ∙ lt-ltb (bucketOf e) (st .n) (bucket-inside st m (pageOf pages j) c e h))
         (rest (memBy (given e) st m (pageOf pages j) c) (j + 1) (stateBy (given e) st c))
 
-pub sync-replays : (n : ℕ) (m : Mem) (pages : List ℕ) (cs : List Change) (sync o len : ℕ) (sized : AllSized cs) (h : syncSays n m pages cs sync ≡ saidDone o len) → sync < 2 ^ 32
+pub done-replays : (n : ℕ) (m : Mem) (pages : List ℕ) (cs : List Change) (sync o len : ℕ) (sized : AllWide cs) (h : syncSays n m pages cs sync ≡ saidDone o len) → sync < 2 ^ 32
     → (table hashes : List ℕ) → imageFits n (length table) ≡ true → length hashes ≡ updatesIn (entriesOf (startMem m sync) pages cs 0 (startState n m))
     → replayAnswer n table (take len (syncMem n m pages cs sync .log)) sync hashes ≡ given applied
-sync-replays n m pages cs sync o len sized h small table hashes fits e =
-    ap₂ (λ (k : ℕ) (x : List ℕ). replayAnswer n table (take k x) sync hashes) (sync-length n m pages cs sync o len sized h) (sync-log n m pages cs sync o len sized h)
-    ∙ finished-accepted (m .log) sync (came n m pages cs sync .state .writer) (left n m pages cs sync .log) (entriesOf (startMem m sync) pages cs 0 (startState n m)) (sync-run n m pages cs sync o len sized h) small n table hashes
+done-replays n m pages cs sync o len sized h small table hashes fits e =
+    ap₂ (λ (k : ℕ) (x : List ℕ). replayAnswer n table (take k x) sync hashes) (done-length n m pages cs sync o len sized h) (done-log n m pages cs sync o len sized h)
+    ∙ finished-accepted (m .log) sync (came n m pages cs sync .state .writer) (left n m pages cs sync .log) (entriesOf (startMem m sync) pages cs 0 (startState n m)) (done-run n m pages cs sync o len sized h) small n table hashes
     (all-inside pages cs (startMem m sync) 0 (startState n m)) fits e

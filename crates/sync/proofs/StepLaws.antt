@@ -21,10 +21,11 @@ use Rattle.wal.specs.declared.Writer.the-variants.{Fresh, Open, Finished}
 use Rattle.wal.proofs.Writer as WriterT
 use Rattle.wal_write.specs.Calls.{roomIn, clearWriter, clearLog, pageUpdate, pageUpdateAnswer, pageUpdateWriter, pageUpdateLog}
 use Rattle.wal_write.proofs.CallLaws.{NotOpen, tested, taken, clear-tests, page-tests}
-use Rattle.sync.specs.Change.{whereOf, Mem, memOf, Does, clears, updates, allocates, doesOf, Effect, cleared, updated, allocated, bucketOf, afterDoes, effectOf, entryBy, sizeBy, tagsBy, marksBy, cellsBy, occupiedBy, memBy, stateOf, stateBy, pageNumber, outlookSaid}
+use Rattle.sync.specs.Change.{whereOf, Wide, Mem, memOf, Does, clears, updates, allocates, doesOf, Effect, cleared, updated, allocated, bucketOf, afterDoes, effectOf, entryBy, sizeBy, tagsBy, marksBy, cellsBy, occupiedBy, memBy, stateOf, stateBy, pageNumber, takenSaid, outlookSaid, StepPromise}
 use Rattle.sync.specs.declared.Change.{Change}
 use Rattle.sync.specs.declared.SyncState.{SyncState}
 use Rattle.sync.specs.declared.Outlook.{Outlook}
+use Rattle.sync.specs.declared.StepAnswer.{StepAnswer}
 
 -- what a `let .. else` tells after it
 abbrev pub Opened : Writer → Type 0
@@ -112,25 +113,28 @@ module _ (st : SyncState) (t ks cs l page : List ℕ) (c : Change) where
   step-ahead h p k w o s = by-writer h p k ∙ open-goes ahead (st .writer) w ∙ sym (s ∙ same-ahead (doesOf (st .n) t cs c))
 
   -- ---- what is left
-  abbrev pub Left : Answer (ℕ × ℕ) → SyncState → Mem → Type 0
-  Left said s m = (said ≡ pageNumber st effect) × ((s ≡ stateBy effect st c) × (m ≡ memBy effect st (memOf t ks cs l) page c))
+  abbrev pub Left : StepAnswer → Mem → Type 0
+  Left r m = StepPromise st (memOf t ks cs l) page c r m
 
-  pub refused-left : (k : ℕ) (said : Answer (ℕ × ℕ)) (s : SyncState) → effect ≡ refused k → said ≡ refused k → s ≡ st → Left said s (memOf t ks cs l)
-  refused-left k said s e a b = (
-    a ∙ sym (ap (pageNumber st) e),
-    (
-      b ∙ sym (ap (λ (x : Answer Effect). stateBy x st c) e),
-      sym (ap (λ (x : Answer Effect). memBy x st (memOf t ks cs l) page c) e),
-    ),
-  )
+  pub refused-left : (k : ℕ) (r : StepAnswer) → effect ≡ refused k → takenSaid (r .taken) ≡ refused k → r .state ≡ st → Wide c → Left r (memOf t ks cs l)
+  refused-left k r e a b w =
+      record {
+        taken = a ∙ sym (ap (pageNumber st) e);
+        state = b ∙ sym (ap (λ (x : Answer Effect). stateBy x st c) e);
+        memory = sym (ap (λ (x : Answer Effect). memBy x st (memOf t ks cs l) page c) e);
+        wide = w;
+      }
 
-  pub given-left : (e : Effect) (said : Answer (ℕ × ℕ)) (s : SyncState) (t′ ks′ cs′ l′ : List ℕ) → effect ≡ given e → said ≡ given (bucketOf e, tagPages (st .n) + bucketOf e) → s ≡ stateOf (st .n) (Open (position (st .writer) + sizeBy c e)) (occupiedBy e (st .occupied)) → t′ ≡ tagsBy e (c .hash) t → ks′ ≡ marksBy e ks → cs′ ≡ cellsBy e (whereOf (c .place)) cs → l′ ≡ put l (position (st .writer)) (recordOf (entryBy c page e)) → Left said s (memOf t′ ks′ cs′ l′)
-  given-left e said s t′ ks′ cs′ l′ h a b et ek ec el = (
-    a ∙ sym (ap (pageNumber st) h),
-    (
-      b ∙ sym (ap (λ (x : Answer Effect). stateBy x st c) h),
-      ap₂ (λ (x y : List ℕ). memOf x y cs′ l′) et ek
-          ∙ ap₂ (λ (x y : List ℕ). memOf (tagsBy e (c .hash) t) (marksBy e ks) x y) ec el
-          ∙ sym (ap (λ (x : Answer Effect). memBy x st (memOf t ks cs l) page c) h),
-    ),
-  )
+  pub given-left : (e : Effect) (r : StepAnswer) (t′ ks′ cs′ l′ : List ℕ) → effect ≡ given e → takenSaid (r .taken) ≡ given (bucketOf e, tagPages (st .n) + bucketOf e)
+      → r .state ≡ stateOf (st .n) (Open (position (st .writer) + sizeBy c e)) (occupiedBy e (st .occupied)) → t′ ≡ tagsBy e (c .hash) t → ks′ ≡ marksBy e ks → cs′ ≡ cellsBy e (whereOf (c .place)) cs
+      → l′ ≡ put l (position (st .writer)) (recordOf (entryBy c page e)) → Wide c → Left r (memOf t′ ks′ cs′ l′)
+  given-left e r t′ ks′ cs′ l′ h a b et ek ec el w =
+      record {
+        taken = a ∙ sym (ap (pageNumber st) h);
+        state = b ∙ sym (ap (λ (x : Answer Effect). stateBy x st c) h);
+        memory =
+            ap₂ (λ (x y : List ℕ). memOf x y cs′ l′) et ek
+            ∙ ap₂ (λ (x y : List ℕ). memOf (tagsBy e (c .hash) t) (marksBy e ks) x y) ec el
+            ∙ sym (ap (λ (x : Answer Effect). memBy x st (memOf t ks cs l) page c) h);
+        wide = w;
+      }

@@ -28,6 +28,7 @@ use Rattle.sync.specs.declared.Planned.the-variants as P
 use Rattle.sync.specs.declared.Outlook.{Outlook}
 use Rattle.sync.specs.declared.Outlook.the-variants as O
 use Rattle.wal_write.specs.Calls.{roomIn, pageUpdate}
+use Rattle.sync.specs.declared.StepAnswer.{StepAnswer}
 use Rattle.sync.specs.declared.Taken.{Taken}
 use Rattle.sync.specs.declared.Taken.the-variants as taken
 
@@ -40,6 +41,17 @@ pub record Mem : Type 0 where
 
 abbrev pub memOf : List ℕ → List ℕ → List ℕ → List ℕ → Mem
 memOf t k c l = record { tags = t; marks = k; cells = c; log = l }
+
+-- the widths of a change's parts, which their types give: "id 32, diff 16"
+pub record Wide (c : Change) : Type 0 where
+  pub id-long : length (c .id) ≡ 32
+  pub two-words : length (c .diff .words) ≡ 2
+  pub low-word : getD (c .diff .words) 0 0 < 2 ^ 64
+  pub high-word : getD (c .diff .words) 1 0 < 2 ^ 64
+
+pub data AllWide : List Change → Type 0 where
+  none-wide : AllWide []
+  more-wide : {c : Change} {cs : List Change} → Wide c → AllWide cs → AllWide (c ∷ cs)
 
 -- the bucket that a change names, if it names one
 pub data Named : Type 0 where
@@ -229,3 +241,10 @@ outlookFits (O.Updates b) st log c =
 outlookFits (O.Takes b) st log c =
     (b < st .n) × (roomIn (length log) (st .writer) (updateSize (countOf (c .diff .words))) ≡ true) × (reserved (c .diff .words) ≡ false)
 outlookFits (O.Refused r) st log c = Unit {0}
+
+-- what a step promises: its answer, the state and the memory after it; and the widths of the change it was given
+pub record StepPromise (st : SyncState) (m : Mem) (page : List ℕ) (c : Change) (r : StepAnswer) (after : Mem) : Type 0 where
+  pub taken : takenSaid (r .taken) ≡ pageNumber st (effectOf st m page c)
+  pub state : r .state ≡ stateBy (effectOf st m page c) st c
+  pub memory : after ≡ memBy (effectOf st m page c) st m page c
+  pub wide : Wide c

@@ -1,18 +1,20 @@
 -- 01, 'Sync': the changes one after another, and the whole sync. Assumes nothing.
+use mathlib.Core.Path.{_≡_}
 use mathlib.Core.Bool.{Bool, true, false, cond, _&&_}
 use mathlib.Core.List.{List, [], _∷_}
-use Prim.Native.Nat.{ℕ, _+_, _*_, _/_}
+use Prim.Native.Nat.{ℕ, _+_, _*_, _/_, _^_, _<_}
 use lib.Dec.{ltb, eqb}
 use lib.ListN.{length, take, drop, replicate}
 use Rattle.answers.specs.Answers.{Answer, given, refused}
 use Rattle.answers.specs.Refusals.{numberOf}
 use Rattle.ht_file.specs.Places.{tagPages, tagsFit}
 use Rattle.meta_map.specs.Tags.{full, countOf}
+use Rattle.page_diff.specs.Diff.{marked}
 use Rattle.wal.specs.Log.{Entry, startSize}
 use Rattle.wal.specs.Writer.{beginAnswer, beginLog, finishAnswer, finishLog, finishWriter}
 use Rattle.wal.specs.declared.Writer.{Writer}
 use Rattle.wal.specs.declared.Writer.the-variants.{Fresh, Open, Finished}
-use Rattle.sync.specs.Change.{Mem, memOf, Effect, effectOf, entryBy, memBy, stateBy}
+use Rattle.sync.specs.Change.{AllWide, Mem, memOf, Effect, effectOf, entryBy, memBy, stateBy}
 use Rattle.sync.specs.declared.Change.{Change}
 use Rattle.sync.specs.declared.SyncState.{SyncState}
 use Rattle.sync.specs.declared.Walked.{Walked}
@@ -20,6 +22,7 @@ use Rattle.sync.specs.declared.Walk.{Walk}
 use Rattle.sync.specs.declared.Walk.the-variants as walk
 use Rattle.sync.specs.declared.Begun.{Begun}
 use Rattle.sync.specs.declared.Begun.the-variants as begun
+use Rattle.sync.specs.declared.SyncAnswer.{SyncAnswer}
 use Rattle.sync.specs.declared.Synced.{Synced}
 use Rattle.sync.specs.declared.Synced.the-variants as synced
 
@@ -79,6 +82,11 @@ unfoldable pub entriesOf : Mem → List ℕ → List Change → ℕ → SyncStat
 entriesOf m pages [] j st = []
 entriesOf m pages (c ∷ cs) j st =
     entriesBy (effectOf st m (pageOf pages j) c) c (pageOf pages j) (entriesOf (changeMem m pages c j st) pages cs (j + 1) (changeAt m pages c j st .state))
+
+-- the hashes of the changes that do not clear, in order: those that replay of the log wants
+unfoldable pub hashesOf : List Change → List ℕ
+hashesOf [] = []
+hashesOf (c ∷ cs) = cond (marked (c .diff .words) 127) (hashesOf cs) (c .hash ∷ hashesOf cs)
 
 abbrev pub walkSaid : Walk → Came
 walkSaid (walk.Through j) = through j
@@ -160,6 +168,23 @@ unfoldable pub syncWriter : ℕ → Mem → List ℕ → List Change → ℕ →
 syncWriter n m pages cs sync w =
     keptIf (beforeChanges n m pages (length cs)) w
     (writerAfter (came n m pages cs sync .came) (came n m pages cs sync .state) (left n m pages cs sync))
+
+-- the widths that the types of what is lent give, where a sync came through: of every change, and of the sync number
+abbrev pub wideIf : Came → List Change → Type 0
+wideIf (through j) cs = AllWide cs
+wideIf (refusedAt j k) cs = Unit {0}
+
+abbrev pub widthsBy : SyncSaid → List Change → ℕ → Type 0
+widthsBy (saidDone o len) cs sync = AllWide cs × (sync < 2 ^ 32)
+widthsBy (saidRefused k) cs sync = Unit {0}
+widthsBy (saidRefusedAt j k) cs sync = Unit {0}
+
+-- what a sync promises: its answer, the writer and the memory after it; and these widths
+pub record SyncPromise (n : ℕ) (m : Mem) (pages : List ℕ) (cs : List Change) (sync : ℕ) (w : Writer) (r : SyncAnswer) (after : Mem) : Type 0 where
+  pub says : syncedSaid (r .synced) ≡ syncSays n m pages cs sync
+  pub writer : r .writer ≡ syncWriter n m pages cs sync w
+  pub memory : after ≡ syncMem n m pages cs sync
+  pub widths : widthsBy (syncedSaid (r .synced)) cs sync
 
 -- the state that a sync begins with, or a refusal
 abbrev pub startIf : Answer (Unit {0}) → SyncState → Answer SyncState

@@ -10,9 +10,9 @@ ghost use Rattle.answers.specs.Answers.{given, refused};
 ghost use Rattle.answers.specs.Refusals.{numberOf};
 ghost use Rattle.ht_file.specs.Places.{tagsFit, tagPages};
 ghost use Rattle.meta_map.specs.Tags.{full, countOf};
-ghost use Rattle.sync.specs.Change.{memOf, bucket, whereOf, placeOf, namedBy, nameSaid, tagFits, byNamed, doesOf, plannedSaid, afterDoes, outlookSaid, outlookFits, cellsAt, takenSaid, pageNumber, effectOf, memBy, stateBy, stateOf};
+ghost use Rattle.sync.specs.Change.{memOf, bucket, whereOf, placeOf, namedBy, nameSaid, tagFits, byNamed, doesOf, plannedSaid, afterDoes, outlookSaid, outlookFits, cellsAt, takenSaid, StepPromise, stateOf};
 ghost use Rattle.sync.specs.declared.Where.the-variants.{Known, Fresh as FreshPage, Cell};
-ghost use Rattle.sync.specs.Sync.{changeAt, changeMem, allOf, memAll, walkSaid, walkedSaid, syncSays, syncWriter, syncMem, beforeChanges, startIf, startState, startMem, keptIf, begunSaid, syncedSaid, saidBy, writerAfter, logAfter};
+ghost use Rattle.sync.specs.Sync.{changeAt, changeMem, allOf, memAll, walkSaid, walkedSaid, wideIf, SyncPromise, beforeChanges, startIf, startState, startMem, keptIf, begunSaid, syncedSaid, saidBy, writerAfter, logAfter};
 use answers::Number;
 use answers::Outcome;
 use answers::Refusal;
@@ -349,7 +349,7 @@ pub fn step(
     c: Change,
     st: SyncState,
 ) -> StepAnswer
-    ensures { λ r. ⌜ (takenSaid (r .taken) ≡ pageNumber st (effectOf st (memOf (now (tags .entry)) (now (marks .entry)) (now (cells .entry)) (now (log .entry))) (now (page .entry)) c)) × ((r .state ≡ stateBy (effectOf st (memOf (now (tags .entry)) (now (marks .entry)) (now (cells .entry)) (now (log .entry))) (now (page .entry)) c) st c) × (memOf (now (tags .exit)) (now (marks .exit)) (now (cells .exit)) (now (log .exit)) ≡ memBy (effectOf st (memOf (now (tags .entry)) (now (marks .entry)) (now (cells .entry)) (now (log .entry))) (now (page .entry)) c) st (memOf (now (tags .entry)) (now (marks .entry)) (now (cells .entry)) (now (log .entry))) (now (page .entry)) c)) ⌝ }
+    ensures { λ r. ⌜ StepPromise st (memOf (now (tags .entry)) (now (marks .entry)) (now (cells .entry)) (now (log .entry))) (now (page .entry)) c r (memOf (now (tags .exit)) (now (marks .exit)) (now (cells .exit)) (now (log .exit))) ⌝ }
 {
     let n = st.n;
     let w = st.writer;
@@ -437,7 +437,7 @@ fn walk_changes(
     changes: &[Change],
     start: SyncState,
 ) -> Walked
-    ensures { λ r. ⌜ (walkedSaid r ≡ allOf (memOf (now (tags .entry)) (now (marks .entry)) (now (cells .entry)) (now (log .entry))) (now (pages .entry)) (now (changes .entry)) 0 start) × (memOf (now (tags .exit)) (now (marks .exit)) (now (cells .exit)) (now (log .exit)) ≡ memAll (memOf (now (tags .entry)) (now (marks .entry)) (now (cells .entry)) (now (log .entry))) (now (pages .entry)) (now (changes .entry)) 0 start) ⌝ }
+    ensures { λ r. ⌜ (walkedSaid r ≡ allOf (memOf (now (tags .entry)) (now (marks .entry)) (now (cells .entry)) (now (log .entry))) (now (pages .entry)) (now (changes .entry)) 0 start) × ((memOf (now (tags .exit)) (now (marks .exit)) (now (cells .exit)) (now (log .exit)) ≡ memAll (memOf (now (tags .entry)) (now (marks .entry)) (now (cells .entry)) (now (log .entry))) (now (pages .entry)) (now (changes .entry)) 0 start) × wideIf (walkSaid (r .walk)) (now (changes .entry))) ⌝ }
 {
     let mut st = start;
     let mut i = 0;
@@ -566,7 +566,7 @@ pub fn sync(
     w: Writer,
     sync_seqn: u32,
 ) -> SyncAnswer
-    ensures { λ r. ⌜ (syncedSaid (r .synced) ≡ syncSays n (memOf (now (tags .entry)) (now (marks .entry)) (now (cells .entry)) (now (log .entry))) (now (pages .entry)) (now (changes .entry)) «sync_seqn») × ((r .writer ≡ syncWriter n (memOf (now (tags .entry)) (now (marks .entry)) (now (cells .entry)) (now (log .entry))) (now (pages .entry)) (now (changes .entry)) «sync_seqn» w) × (memOf (now (tags .exit)) (now (marks .exit)) (now (cells .exit)) (now (log .exit)) ≡ syncMem n (memOf (now (tags .entry)) (now (marks .entry)) (now (cells .entry)) (now (log .entry))) (now (pages .entry)) (now (changes .entry)) «sync_seqn»)) ⌝ }
+    ensures { λ r. ⌜ SyncPromise n (memOf (now (tags .entry)) (now (marks .entry)) (now (cells .entry)) (now (log .entry))) (now (pages .entry)) (now (changes .entry)) «sync_seqn» w r (memOf (now (tags .exit)) (now (marks .exit)) (now (cells .exit)) (now (log .exit))) ⌝ }
 {
     let begun = begin_sync(tags, marks, log, pages, changes.len(), n, sync_seqn);
     match begun {
@@ -595,7 +595,7 @@ fn sync_front(
     sync_seqn: u32,
 ) -> SyncAnswer
     requires { ⌜ k ≤ 4 ⌝ }
-    ensures { λ r. ⌜ (syncedSaid (r .synced) ≡ syncSays n (memOf (now (tags .entry)) (now (marks .entry)) (now (cells .entry)) (now (log .entry))) (now (pages .entry)) (take k cs) «sync_seqn») × ((r .writer ≡ syncWriter n (memOf (now (tags .entry)) (now (marks .entry)) (now (cells .entry)) (now (log .entry))) (now (pages .entry)) (take k cs) «sync_seqn» w) × (memOf (now (tags .exit)) (now (marks .exit)) (now (cells .exit)) (now (log .exit)) ≡ syncMem n (memOf (now (tags .entry)) (now (marks .entry)) (now (cells .entry)) (now (log .entry))) (now (pages .entry)) (take k cs) «sync_seqn»)) ⌝ }
+    ensures { λ r. ⌜ SyncPromise n (memOf (now (tags .entry)) (now (marks .entry)) (now (cells .entry)) (now (log .entry))) (now (pages .entry)) (take k cs) «sync_seqn» w r (memOf (now (tags .exit)) (now (marks .exit)) (now (cells .exit)) (now (log .exit))) ⌝ }
 {
     sync(tags, marks, cells, log, pages, &cs[..k], n, w, sync_seqn)
 }
@@ -613,7 +613,7 @@ pub fn sync_four(
     w: Writer,
     sync_seqn: u32,
 ) -> SyncAnswer
-    ensures { λ r. ⌜ (syncedSaid (r .synced) ≡ syncSays n (memOf (now (tags .entry)) (now (marks .entry)) (now (cells .entry)) (now (log .entry))) (now (pages .entry)) (take (min count 4) cs) «sync_seqn») × ((r .writer ≡ syncWriter n (memOf (now (tags .entry)) (now (marks .entry)) (now (cells .entry)) (now (log .entry))) (now (pages .entry)) (take (min count 4) cs) «sync_seqn» w) × (memOf (now (tags .exit)) (now (marks .exit)) (now (cells .exit)) (now (log .exit)) ≡ syncMem n (memOf (now (tags .entry)) (now (marks .entry)) (now (cells .entry)) (now (log .entry))) (now (pages .entry)) (take (min count 4) cs) «sync_seqn»)) ⌝ }
+    ensures { λ r. ⌜ SyncPromise n (memOf (now (tags .entry)) (now (marks .entry)) (now (cells .entry)) (now (log .entry))) (now (pages .entry)) (take (min count 4) cs) «sync_seqn» w r (memOf (now (tags .exit)) (now (marks .exit)) (now (cells .exit)) (now (log .exit))) ⌝ }
 {
     if 4 < count {
         return sync_front(tags, marks, cells, log, pages, cs, 4, n, w, sync_seqn);

@@ -45,10 +45,10 @@ use denote.Triple.Walked.{Walks, ends-at, walked, walk-meets}
 use denote.Exit.{yes}
 use Rattle.wal.specs.declared.Writer.{Writer}
 use Rattle.sync.specs.Change.{Mem, memOf}
-use Rattle.sync.specs.Sync.{SyncSaid, syncedSaid, syncSays, syncWriter, syncMem}
+use Rattle.sync.specs.Sync.{SyncSaid, syncedSaid, syncSays, widthsBy, SyncPromise}
 use Rattle.sync.specs.declared.Change.{Change}
 use Rattle.sync.specs.declared.SyncAnswer.{SyncAnswer as Answer}
-use Rattle.bitbox.specs.Words.{writerOf, writerWords, syncWords}
+use Rattle.bitbox.specs.Words.{writerOf, writerWords, syncWords, SyncExport}
 use Rattle.bitbox.specs.declared.SyncAnswer.{SyncAnswer}
 use Rattle.bitbox.specs.declared.WriterState.{WriterState}
 use Rattle.wal.proofs.Writer as Z
@@ -174,12 +174,10 @@ module _ {M : Type 1} (𝓤 : URA M) (H : Heap 𝓤) (A : Atoms 𝓤) (W : Given
 
   -- what `sync` says with a writer, and what is to be shown
   abbrev Said : Writer → Answer → List ℕ → List ℕ → List ℕ → List ℕ → Type 0
-  Said u a z0 z1 z2 z3 = (syncedSaid (a .synced) ≡ syncSays n m (now pg) (now ch) seq) × ((a .writer ≡ syncWriter n m (now pg) (now ch) seq u)
-      × (memOf z0 z1 z2 z3 ≡ syncMem n m (now pg) (now ch) seq))
+  Said u a z0 z1 z2 z3 = SyncPromise n m (now pg) (now ch) seq u a (memOf z0 z1 z2 z3)
 
   abbrev Right : SyncAnswer → List ℕ → List ℕ → List ℕ → List ℕ → Type 0
-  Right r z0 z1 z2 z3 = (r ≡ syncWords (syncSays n m (now pg) (now ch) seq) (writerWords (syncWriter n m (now pg) (now ch) seq (writerOf w))))
-      × (memOf z0 z1 z2 z3 ≡ syncMem n m (now pg) (now ch) seq)
+  Right r z0 z1 z2 z3 = SyncExport n m (now pg) (now ch) seq w r (memOf z0 z1 z2 z3)
 
   -- the four slices at their end, the tokens and the two that are read
   abbrev Ended : List ℕ → List ℕ → List ℕ → List ℕ → List (Item 𝓤) → List (Item 𝓤)
@@ -319,11 +317,13 @@ module _ {M : Type 1} (𝓤 : URA M) (H : Heap 𝓤) (A : Atoms 𝓤) (W : Given
         move ! (13 ∷ 14 ∷ []) $ free1 ! $
         free0 ! $
         move ! (1 ∷ 2 ∷ 3 ∷ 4 ∷ 5 ∷ 6 ∷ 7 ∷ 8 ∷ 9 ∷ 10 ∷ 11 ∷ 12 ∷ 0 ∷ []) $
-        by ! (exits r v z0 z1 z2 z3 (
-          e ∙ ap (λ (x : SyncSaid). syncWords x (writerWords (a .writer))) (said .0) ∙ ap (λ (u : Writer). syncWords (syncSays n m (now pg) (now ch) seq)
-              (writerWords u)) (said .1 .0),
-          said .1 .1,
-        ) n0 n1 n2 n3))))))
+        by ! (exits r v z0 z1 z2 z3 (record {
+          answer =
+              e ∙ ap (λ (x : SyncSaid). syncWords x (writerWords (a .writer))) (said .says) ∙ ap (λ (u : Writer). syncWords (syncSays n m (now pg) (now ch) seq)
+              (writerWords u)) (said .writer);
+          memory = said .memory;
+          widths = subst (λ (x : SyncSaid). widthsBy x (now ch) seq) (said .says) (said .widths);
+        }) n0 n1 n2 n3))))))
 
     -- ---- the sync
     abbrev args : Writer → RefT (List ℕ) × (RefT (List ℕ) ×
@@ -444,7 +444,7 @@ module _ {M : Type 1} (𝓤 : URA M) (H : Heap 𝓤) (A : Atoms 𝓤) (W : Given
         forget ! 14 refl $
         forget ! 12 refl $
         ends a (zs .0) (zs .1 .0) (zs .1 .1 .0) (zs .1 .1 .1 .0)
-        (e .0, (e .1 .0 ∙ ap (λ (x : Writer). syncWriter n m (now pg) (now ch) seq x) is-of, e .1 .1)) m0 m1 m2 m3
+        (subst (λ (x : Writer). Said x a (zs .0) (zs .1 .0) (zs .1 .1 .0) (zs .1 .1 .1 .0)) is-of e) m0 m1 m2 m3
         (subst (Is Q.the-row a) (LL.tells Q.the-type Q′.the-laws a _ is) is))))))))))
 
     -- ---- the writer

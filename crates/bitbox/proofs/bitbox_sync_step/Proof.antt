@@ -41,14 +41,16 @@ returns c =
     let args = c .before .before .before .before .before .before .before .before .before .before .before .before .before .before .before .before .before .before .before .before .before .before .args in
     let m = memOf (args .tags .now) (args .marks .now) (args .cells .now) (args .log .now) in
     let page = args .page .now in
-    let k = args .c in (
-      c .of-taken .ensures
-          ∙ ap (λ (a : Answer (ℕ × ℕ)). stepWords a (c .before .of-state .result)) (at-step .step .ensures .0)
-          ∙ ap (λ (s : StepState). stepWords (pageNumber (at-state-of .state-of .result) (effectOf (at-state-of .state-of .result) m page k)) s) (c .before .of-state .ensures ∙ ap stateWords (at-step .step .ensures .1 .0))
-          ∙ ap (λ (s : SyncState). stepWords (pageNumber s (effectOf s m page k)) (stateWords (stateBy (effectOf s m page k) s k))) (at-state-of .state-of .ensures),
-      at-step .step .ensures .1 .1
-          ∙ ap (λ (s : SyncState). memBy (effectOf s m page k) s m page k) (at-state-of .state-of .ensures),
-    )
+    let k = args .c in
+    record {
+      answer =
+          c .of-taken .ensures
+          ∙ ap (λ (a : Answer (ℕ × ℕ)). stepWords a (c .before .of-state .result)) (at-step .step .ensures .taken)
+          ∙ ap (λ (s : StepState). stepWords (pageNumber (at-state-of .state-of .result) (effectOf (at-state-of .state-of .result) m page k)) s) (c .before .of-state .ensures ∙ ap stateWords (at-step .step .ensures .state))
+          ∙ ap (λ (s : SyncState). stepWords (pageNumber s (effectOf s m page k)) (stateWords (stateBy (effectOf s m page k) s k))) (at-state-of .state-of .ensures);
+      memory = at-step .step .ensures .memory ∙ ap (λ (s : SyncState). memBy (effectOf s m page k) s m page k) (at-state-of .state-of .ensures);
+      wide = at-step .step .ensures .wide;
+    }
 
 pub bitbox-sync-step-spec : {M : Type 1} → statement M
 bitbox-sync-step-spec =

@@ -92,7 +92,7 @@ same-length-4 c = search needs
 
 -- src/lib.rt:364:9
 returns : tie.Need-returns
-returns c = let u = c .before .before .before .before .before .before .before .before .before .before .before .before in let q = u .before .before .before .before .before .before .before .before in let x = q .before .before .before .before .before .before .args in let m = memOf (x .tags .now) (x .marks .now) (x .cells .now) (x .log .now) in let page = take (e q - a q) (drop (a q) (pages q)) in let r = u .step in (change-refused (x .st) m (pages q) page (x .c) (j q) (same q) (r .result .taken) (r .result .state) (r .ensures .0) (r .ensures .1 .0) (c .before .t .given .0 .0) (c .before .t .given .1), change-mem (x .st) m (pages q) page (x .c) (j q) (same q) (memOf (r .last .0) (r .last .1 .0) (r .last .1 .1 .0) (r .last .1 .1 .1 .0)) (r .ensures .1 .1))
+returns c = let u = c .before .before .before .before .before .before .before .before .before .before .before .before in let q = u .before .before .before .before .before .before .before .before in let x = q .before .before .before .before .before .before .args in let m = memOf (x .tags .now) (x .marks .now) (x .cells .now) (x .log .now) in let page = take (e q - a q) (drop (a q) (pages q)) in let r = u .step in (change-refused (x .st) m (pages q) page (x .c) (j q) (same q) (r .result .taken) (r .result .state) (r .ensures .taken) (r .ensures .state) (c .before .t .given .0 .0) (c .before .t .given .1), change-mem (x .st) m (pages q) page (x .c) (j q) (same q) (memOf (r .last .0) (r .last .1 .0) (r .last .1 .1 .0) (r .last .1 .1 .1 .0)) (r .ensures .memory))
 
 enum-told : tie.Need-enum-told
 enum-told c = search needs
@@ -115,7 +115,7 @@ same-length-8 c = search needs
 
 -- src/lib.rt:342:1
 returns-2 : tie.Need-returns-2
-returns-2 c = let u = c .before .before .before .before .before .before .before .before .before .before .before in let q = u .before .before .before .before .before .before .before .before in let x = q .before .before .before .before .before .before .args in let m = memOf (x .tags .now) (x .marks .now) (x .cells .now) (x .log .now) in let page = take (e q - a q) (drop (a q) (pages q)) in let r = u .step in (change-given (x .st) m (pages q) page (x .c) (j q) (same q) (r .result .taken) (r .result .state) (r .ensures .0) (r .ensures .1 .0) (c .before .match .keys2), change-mem (x .st) m (pages q) page (x .c) (j q) (same q) (memOf (r .last .0) (r .last .1 .0) (r .last .1 .1 .0) (r .last .1 .1 .1 .0)) (r .ensures .1 .1))
+returns-2 c = let u = c .before .before .before .before .before .before .before .before .before .before .before in let q = u .before .before .before .before .before .before .before .before in let x = q .before .before .before .before .before .before .args in let m = memOf (x .tags .now) (x .marks .now) (x .cells .now) (x .log .now) in let page = take (e q - a q) (drop (a q) (pages q)) in let r = u .step in (change-given (x .st) m (pages q) page (x .c) (j q) (same q) (r .result .taken) (r .result .state) (r .ensures .taken) (r .ensures .state) (c .before .match .keys2), change-mem (x .st) m (pages q) page (x .c) (j q) (same q) (memOf (r .last .0) (r .last .1 .0) (r .last .1 .1 .0) (r .last .1 .1 .1 .0)) (r .ensures .memory))
 
 pub change-at-spec : {M : Type 1} → statement M
 change-at-spec =

@@ -10,12 +10,13 @@ use Rattle.ht_file.specs.Places.{tagsFit, tagPages}
 use Rattle.ht_file.proofs.Laws.{tags-fit-facts}
 use Rattle.wal.specs.declared.Writer.{Writer}
 use Rattle.wal.specs.declared.Writer.the-variants.{Open}
-use Rattle.sync.specs.Change.{memOf, effectOf, takenSaid, outlookSaid, outlookFits, cleared, updated, allocated, stateOf}
+use Rattle.sync.specs.Change.{Wide, memOf, effectOf, outlookSaid, outlookFits, cleared, updated, allocated, stateOf}
 use Rattle.sync.specs.declared.Change.{Change}
 use Rattle.sync.specs.declared.SyncState.{SyncState}
 use Rattle.sync.specs.declared.Outlook.{Outlook}
 use Rattle.sync.specs.declared.Outlook.the-variants as outlook
 use Rattle.sync.proofs.StepLaws.{Opened, step-unfit, step-page, step-marks, step-closed, step-ahead, refused-left, given-left, clear-taken, page-taken, clear-state, clear-bytes, page-state, page-bytes}
+use Rattle.sync.proofs.Widths.{typed-wide}
 use borrow.Author.Needs.{needs}
 use Rattle.sync.proofs.step.Statement.{statement}
 use Rattle.sync.proofs.step.Tie as tie
@@ -55,6 +56,9 @@ module _ (c : tie.Start) where
 
   abbrev page : List ℕ
   page = c .args .page .now
+
+  wide : Wide ch
+  wide = typed-wide ch _ (c .good .1 .1 .1 .1 .1 .0)
 
 -- the tags fit
 module _ (c : tie.Then1) where
@@ -105,7 +109,7 @@ refused-step-requires c κs = search needs
 
 -- src/lib.rt:300:13
 returns : tie.Need-returns
-returns c = let t = c .before .before in let o = start t in refused-left (st o) (tags o) (marks o) (cells o) (log o) (page o) (ch o) 2 (takenSaid (c .refused-step .result .taken)) (c .refused-step .result .state) (step-page (st o) (tags o) (marks o) (cells o) (log o) (page o) (ch o) (fits t) (c .before .if2 .taken)) (c .refused-step .ensures .0) (c .refused-step .ensures .1)
+returns c = let t = c .before .before in let o = start t in refused-left (st o) (tags o) (marks o) (cells o) (log o) (page o) (ch o) 2 (c .refused-step .result) (step-page (st o) (tags o) (marks o) (cells o) (log o) (page o) (ch o) (fits t) (c .before .if2 .taken)) (c .refused-step .ensures .0) (c .refused-step .ensures .1) (wide o)
 
 -- src/lib.rt:302:28
 add-if3 : tie.Need-add-if3
@@ -117,7 +121,7 @@ refused-step-requires-2 c κs = search needs
 
 -- src/lib.rt:303:13
 returns-2 : tie.Need-returns-2
-returns-2 c = let e = c .before .before in let t = e .before in let o = start t in refused-left (st o) (tags o) (marks o) (cells o) (log o) (page o) (ch o) 2 (takenSaid (c .refused-step2 .result .taken)) (c .refused-step2 .result .state) (step-marks (st o) (tags o) (marks o) (cells o) (log o) (page o) (ch o) (fits t) (e .if2 .left) (c .before .if3 .taken)) (c .refused-step2 .ensures .0) (c .refused-step2 .ensures .1)
+returns-2 c = let e = c .before .before in let t = e .before in let o = start t in refused-left (st o) (tags o) (marks o) (cells o) (log o) (page o) (ch o) 2 (c .refused-step2 .result) (step-marks (st o) (tags o) (marks o) (cells o) (log o) (page o) (ch o) (fits t) (e .if2 .left) (c .before .if3 .taken)) (c .refused-step2 .ensures .0) (c .refused-step2 .ensures .1) (wide o)
 
 enum-told : tie.Need-enum-told
 enum-told c = search needs
@@ -128,7 +132,7 @@ refused-step-requires-3 c κs = search needs
 
 -- src/lib.rt:306:13
 returns-3 : tie.Need-returns-3
-returns-3 c = let e = c .before .before in let t = e .before .before in let o = start t in refused-left (st o) (tags o) (marks o) (cells o) (log o) (page o) (ch o) 12 (takenSaid (c .refused-step3 .result .taken)) (c .refused-step3 .result .state) (step-closed (st o) (tags o) (marks o) (cells o) (log o) (page o) (ch o) (fits t) (e .before .if2 .left) (e .if3 .left) (c .before .match .keys2)) (c .refused-step3 .ensures .0) (c .refused-step3 .ensures .1)
+returns-3 c = let e = c .before .before in let t = e .before .before in let o = start t in refused-left (st o) (tags o) (marks o) (cells o) (log o) (page o) (ch o) 12 (c .refused-step3 .result) (step-closed (st o) (tags o) (marks o) (cells o) (log o) (page o) (ch o) (fits t) (e .before .if2 .left) (e .if3 .left) (c .before .match .keys2)) (c .refused-step3 .ensures .0) (c .refused-step3 .ensures .1) (wide o)
 
 -- src/lib.rt:308:13
 look-ahead-requires : tie.Need-look-ahead-requires
@@ -220,7 +224,7 @@ same-length-3 c = search needs
 
 -- src/lib.rt:285:1
 returns-4 : tie.Need-returns-4
-returns-4 c = let a = c .before .before in let l = a .before .before .before .before .before in let o = at l in let why = a .ahead .given .0 .0 in refused-left (st o) (tags o) (marks o) (cells o) (log o) (page o) (ch o) (numberOf why) (takenSaid (c .refused-step4 .result .taken)) (c .refused-step4 .result .state) (seen l (outlook.Refused why) (a .ahead .given .1)) (c .refused-step4 .ensures .0) (c .refused-step4 .ensures .1)
+returns-4 c = let a = c .before .before in let l = a .before .before .before .before .before in let o = at l in let why = a .ahead .given .0 .0 in refused-left (st o) (tags o) (marks o) (cells o) (log o) (page o) (ch o) (numberOf why) (c .refused-step4 .result) (seen l (outlook.Refused why) (a .ahead .given .1)) (c .refused-step4 .ensures .0) (c .refused-step4 .ensures .1) (wide o)
 
 -- src/lib.rt:285:1
 same-length-4 : tie.Need-same-length-4
@@ -240,7 +244,7 @@ same-length-7 c = search needs
 
 -- src/lib.rt:285:1
 returns-5 : tie.Need-returns-5
-returns-5 c = let a = c .before .before .before .before .before .before .before .before .before .before .before .before .before .before in let l = a .before .before .before .before .before in let o = at l in let b = a .ahead2 .given .0 .0 in let r = rests l (outlook.Clears b) (a .ahead2 .given .1) in let w = st o .writer in let k = clear-taken w (log o) (opened l) (r .1) in let wr = c .before .before .before .before .before .before .before .before .before .before .before in let tg = c .before .before .before .before .before .before in given-left (st o) (tags o) (marks o) (cells o) (log o) (page o) (ch o) (cleared b) (takenSaid (c .taken-step .result .taken)) (c .taken-step .result .state) (tg .write-tag .last .0) (tg .write-tag .last .1 .0) (cells o) (wr .write-clear .last .0) (seen l (outlook.Clears b) (a .ahead2 .given .1)) (c .taken-step .ensures .0) (c .taken-step .ensures .1 ∙ ap₂ (stateOf (st o .n)) (wr .write-clear .ensures .1 .0 ∙ clear-state w (log o) k) (c .before .one-less .ensures)) (tg .write-tag .ensures .0) (tg .write-tag .ensures .1) refl (wr .write-clear .ensures .1 .1 ∙ clear-bytes w (log o) k b)
+returns-5 c = let a = c .before .before .before .before .before .before .before .before .before .before .before .before .before .before in let l = a .before .before .before .before .before in let o = at l in let b = a .ahead2 .given .0 .0 in let r = rests l (outlook.Clears b) (a .ahead2 .given .1) in let w = st o .writer in let k = clear-taken w (log o) (opened l) (r .1) in let wr = c .before .before .before .before .before .before .before .before .before .before .before in let tg = c .before .before .before .before .before .before in given-left (st o) (tags o) (marks o) (cells o) (log o) (page o) (ch o) (cleared b) (c .taken-step .result) (tg .write-tag .last .0) (tg .write-tag .last .1 .0) (cells o) (wr .write-clear .last .0) (seen l (outlook.Clears b) (a .ahead2 .given .1)) (c .taken-step .ensures .0) (c .taken-step .ensures .1 ∙ ap₂ (stateOf (st o .n)) (wr .write-clear .ensures .1 .0 ∙ clear-state w (log o) k) (c .before .one-less .ensures)) (tg .write-tag .ensures .0) (tg .write-tag .ensures .1) refl (wr .write-clear .ensures .1 .1 ∙ clear-bytes w (log o) k b) (wide o)
 
 -- src/lib.rt:285:1
 same-length-8 : tie.Need-same-length-8
@@ -256,7 +260,7 @@ same-length-10 c = search needs
 
 -- src/lib.rt:285:1
 returns-6 : tie.Need-returns-6
-returns-6 c = let a = c .before .before .before .before .before .before in let l = a .before .before .before .before .before in let o = at l in let b = a .ahead3 .given .0 .0 in let r = rests l (outlook.Updates b) (a .ahead3 .given .1) in let w = st o .writer in let ws = ch o .diff .words in let k = page-taken w (log o) ws (page o) (opened l) (told l .before .if2 .left) (r .2) (r .1) in let wr = c .before .before .before in given-left (st o) (tags o) (marks o) (cells o) (log o) (page o) (ch o) (updated b) (takenSaid (c .taken-step2 .result .taken)) (c .taken-step2 .result .state) (tags o) (marks o) (cells o) (wr .write-page-update .last .0) (seen l (outlook.Updates b) (a .ahead3 .given .1)) (c .taken-step2 .ensures .0) (c .taken-step2 .ensures .1 ∙ ap (λ (v : Writer). stateOf (st o .n) v (st o .occupied)) (wr .write-page-update .ensures .1 .0 ∙ page-state w (log o) ws (page o) k)) refl refl refl (wr .write-page-update .ensures .1 .1 ∙ page-bytes w (log o) ws (page o) k (ch o .id) b)
+returns-6 c = let a = c .before .before .before .before .before .before in let l = a .before .before .before .before .before in let o = at l in let b = a .ahead3 .given .0 .0 in let r = rests l (outlook.Updates b) (a .ahead3 .given .1) in let w = st o .writer in let ws = ch o .diff .words in let k = page-taken w (log o) ws (page o) (opened l) (told l .before .if2 .left) (r .2) (r .1) in let wr = c .before .before .before in given-left (st o) (tags o) (marks o) (cells o) (log o) (page o) (ch o) (updated b) (c .taken-step2 .result) (tags o) (marks o) (cells o) (wr .write-page-update .last .0) (seen l (outlook.Updates b) (a .ahead3 .given .1)) (c .taken-step2 .ensures .0) (c .taken-step2 .ensures .1 ∙ ap (λ (v : Writer). stateOf (st o .n) v (st o .occupied)) (wr .write-page-update .ensures .1 .0 ∙ page-state w (log o) ws (page o) k)) refl refl refl (wr .write-page-update .ensures .1 .1 ∙ page-bytes w (log o) ws (page o) k (ch o .id) b) (wide o)
 
 -- src/lib.rt:285:1
 same-length-11 : tie.Need-same-length-11
@@ -276,11 +280,11 @@ same-length-14 c = search needs
 
 -- src/lib.rt:285:1
 returns-7 : tie.Need-returns-7
-returns-7 c = let a = c .before .before .before .before .before .before .before .before .before .before .before .before .before .before .before .before .before .before .before in let l = a .before .before .before .before .before in let o = at l in let b = a .ahead4 .given .0 .0 in let r = rests l (outlook.Takes b) (a .ahead4 .given .1) in let w = st o .writer in let ws = ch o .diff .words in let k = page-taken w (log o) ws (page o) (opened l) (told l .before .if2 .left) (r .2) (r .1) in let wr = c .before .before .before .before .before .before .before .before .before .before .before .before .before .before .before .before in let tg = c .before .before .before .before .before .before .before .before .before .before in let cl = c .before .before .before .before in given-left (st o) (tags o) (marks o) (cells o) (log o) (page o) (ch o) (allocated b) (takenSaid (c .taken-step3 .result .taken)) (c .taken-step3 .result .state) (tg .write-tag2 .last .0) (tg .write-tag2 .last .1 .0) (cl .set-cell .last .0) (wr .write-page-update2 .last .0) (seen l (outlook.Takes b) (a .ahead4 .given .1)) (c .taken-step3 .ensures .0) (c .taken-step3 .ensures .1 ∙ ap₂ (stateOf (st o .n)) (wr .write-page-update2 .ensures .1 .0 ∙ page-state w (log o) ws (page o) k) (c .before .one-more .ensures)) (tg .write-tag2 .ensures .0 ∙ ap (set (tags o) b) (tg .before .full-entry .ensures)) (tg .write-tag2 .ensures .1) (cl .set-cell .ensures) (wr .write-page-update2 .ensures .1 .1 ∙ page-bytes w (log o) ws (page o) k (ch o .id) b)
+returns-7 c = let a = c .before .before .before .before .before .before .before .before .before .before .before .before .before .before .before .before .before .before .before in let l = a .before .before .before .before .before in let o = at l in let b = a .ahead4 .given .0 .0 in let r = rests l (outlook.Takes b) (a .ahead4 .given .1) in let w = st o .writer in let ws = ch o .diff .words in let k = page-taken w (log o) ws (page o) (opened l) (told l .before .if2 .left) (r .2) (r .1) in let wr = c .before .before .before .before .before .before .before .before .before .before .before .before .before .before .before .before in let tg = c .before .before .before .before .before .before .before .before .before .before in let cl = c .before .before .before .before in given-left (st o) (tags o) (marks o) (cells o) (log o) (page o) (ch o) (allocated b) (c .taken-step3 .result) (tg .write-tag2 .last .0) (tg .write-tag2 .last .1 .0) (cl .set-cell .last .0) (wr .write-page-update2 .last .0) (seen l (outlook.Takes b) (a .ahead4 .given .1)) (c .taken-step3 .ensures .0) (c .taken-step3 .ensures .1 ∙ ap₂ (stateOf (st o .n)) (wr .write-page-update2 .ensures .1 .0 ∙ page-state w (log o) ws (page o) k) (c .before .one-more .ensures)) (tg .write-tag2 .ensures .0 ∙ ap (set (tags o) b) (tg .before .full-entry .ensures)) (tg .write-tag2 .ensures .1) (cl .set-cell .ensures) (wr .write-page-update2 .ensures .1 .1 ∙ page-bytes w (log o) ws (page o) k (ch o .id) b) (wide o)
 
 -- src/lib.rt:285:1
 returns-8 : tie.Need-returns-8
-returns-8 c = let t = c .before .before in let o = t .before .before .before .before .before .before in refused-left (st o) (tags o) (marks o) (cells o) (log o) (page o) (ch o) 1 (takenSaid (c .refused-step5 .result .taken)) (c .refused-step5 .result .state) (step-unfit (st o) (tags o) (marks o) (cells o) (log o) (page o) (ch o) (sym (t .tags-fit .ensures) ∙ c .before .if1 .left)) (c .refused-step5 .ensures .0) (c .refused-step5 .ensures .1)
+returns-8 c = let t = c .before .before in let o = t .before .before .before .before .before .before in refused-left (st o) (tags o) (marks o) (cells o) (log o) (page o) (ch o) 1 (c .refused-step5 .result) (step-unfit (st o) (tags o) (marks o) (cells o) (log o) (page o) (ch o) (sym (t .tags-fit .ensures) ∙ c .before .if1 .left)) (c .refused-step5 .ensures .0) (c .refused-step5 .ensures .1) (wide o)
 
 pub step-spec : {M : Type 1} → statement M
 step-spec =

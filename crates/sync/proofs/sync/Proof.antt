@@ -47,7 +47,7 @@ use Rattle.answers.specs.Refusals.{numberOf}
 use Rattle.answers.specs.declared.Refusal.{Refusal}
 use Rattle.wal.specs.declared.Writer.{Writer}
 use Rattle.sync.specs.Change.{Mem, memOf}
-use Rattle.sync.specs.Sync.{allOf, memAll, walkSaid, walkedSaid, beforeChanges, startIf, startState, startMem, keptIf, begunSaid, saidBy, writerAfter, logAfter, syncedSaid, syncSays, syncWriter, syncMem}
+use Rattle.sync.specs.Sync.{allOf, memAll, walkSaid, walkedSaid, beforeChanges, startIf, startState, startMem, keptIf, begunSaid, saidBy, writerAfter, logAfter, syncedSaid, syncSays, syncWriter, syncMem, wideIf, SyncPromise}
 use Rattle.sync.specs.declared.Change.{Change}
 use Rattle.sync.specs.declared.SyncState.{SyncState}
 use Rattle.sync.specs.declared.Walked.{Walked}
@@ -59,6 +59,7 @@ use Rattle.sync.specs.declared.SyncAnswer.{SyncAnswer}
 use Rattle.sync.proofs.Again.{LentAgain, lends-again, comes-back}
 use Rattle.sync.proofs.Shared.{LentShared, lends-shared, shared-back}
 use Rattle.sync.proofs.SyncLaws.{log-only, refused-whole, begun-whole}
+use Rattle.sync.proofs.Widths.{said-widths}
 use Rattle.answers.proofs.Refusal as F
 use Rattle.answers.proofs.Refusal.Laws as F′
 use Rattle.wal.proofs.Writer as Z
@@ -224,8 +225,7 @@ module _ {M : Type 1} (𝓤 : URA M) (H : Heap 𝓤) (A : Atoms 𝓤) (W : Given
   m = memOf e0 e1 e2 e3
 
   abbrev Right : SyncAnswer → List ℕ → List ℕ → List ℕ → List ℕ → Type 0
-  Right r z0 z1 z2 z3 = (syncedSaid (r .synced) ≡ syncSays n m (now pg) cs seq) × ((r .writer ≡ syncWriter n m (now pg) cs seq w) × (memOf z0 z1 z2 z3 ≡ syncMem n m
-      (now pg) cs seq))
+  Right r z0 z1 z2 z3 = SyncPromise n m (now pg) cs seq w r (memOf z0 z1 z2 z3)
 
   exits : (r : SyncAnswer) (z0 z1 z2 z3 : List ℕ) → Right r z0 z1 z2 z3 → length z0 ≡ length e0 → length z1 ≡ length e1 → length z2 ≡ length e2 → length z3 ≡ length e3
       → ent 𝓤 (⋆ 𝓤 H A (‵ (OwnT0 z0) ∷ ‵ (OwnT1 z1) ∷ ‵ (OwnT2 z2) ∷ ‵ (OwnT3 z3) ∷ ‵ (flft κ0 q0) ∷ ‵ (flft κ1 q1) ∷ ‵ (flft κ2 q2) ∷ ‵ (flft κ3 q3) ∷ ‵ (flft κ4 q4) ∷ ‵
@@ -560,12 +560,12 @@ module _ {M : Type 1} (𝓤 : URA M) (H : Heap 𝓤) (A : Atoms 𝓤) (W : Given
           join ! $ join ! $ frame ! $ done !
 
       abbrev SaidC : Walked → List ℕ → List ℕ → List ℕ → List ℕ → Type 0
-      SaidC r z0 z1 z2 z3 = (walkedSaid r ≡ allOf (memOf y0 y1 y2 y3) (now pg) cs 0 st) × (memOf z0 z1 z2 z3 ≡ memAll (memOf y0 y1 y2 y3) (now pg) cs 0 st)
+      SaidC r z0 z1 z2 z3 = (walkedSaid r ≡ allOf (memOf y0 y1 y2 y3) (now pg) cs 0 st) × ((memOf z0 z1 z2 z3 ≡ memAll (memOf y0 y1 y2 y3) (now pg) cs 0 st) × wideIf (walkSaid (r .walk)) cs)
 
       -- what is known at the end of the whole
       abbrev All : Type 0
       All = (r : Walked) (z0 z1 z2 z3 : List ℕ) → walkedSaid r ≡ allOf (memOf y0 y1 y2 y3) (now pg) cs 0 st → memOf z0 z1 z2 z3 ≡ memAll (memOf y0 y1 y2 y3) (now pg) cs 0 st
-          → (a : SyncAnswer) (l : List ℕ) → SaidE r z3 a l → Right a z0 z1 z2 l
+          → wideIf (walkSaid (r .walk)) cs → (a : SyncAnswer) (l : List ℕ) → SaidE r z3 a l → Right a z0 z1 z2 l
 
       walks-on : Room u8 (length y0) → Room u8 (length y1) → Room u64 (length y2) → Room u8 (length y3) → All → length y0 ≡ length e0 → length y1 ≡ length e1
           → length y2 ≡ length e2 → length y3 ≡ length e3
@@ -715,7 +715,7 @@ module _ {M : Type 1} (𝓤 : URA M) (H : Heap 𝓤) (A : Atoms 𝓤) (W : Given
           forget ! 19 refl $
           forget ! 17 refl $
           finishes r (zs .0) (zs .1 .0) (zs .1 .1 .0) (zs .1 .1 .1 .0) (subst (Is D.the-row r) (LL.tells D.the-type D′.the-laws r _ is) is) (subst (Room u8) (sym m3) room3) (all r
-          (zs .0) (zs .1 .0) (zs .1 .1 .0) (zs .1 .1 .1 .0) (e .0) (e .1)) (m0 ∙ n0) (m1 ∙ n1) (m2 ∙ n2) (m3 ∙ n3))))))))))))))))))
+          (zs .0) (zs .1 .0) (zs .1 .1 .0) (zs .1 .1 .1 .0) (e .0) (e .1 .0) (e .1 .1)) (m0 ∙ n0) (m1 ∙ n1) (m2 ∙ n2) (m3 ∙ n3))))))))))))))))))
 
     refuses : (why : Refusal) (y1 y3 : List ℕ) → Is B.the-row (Refused why) (bval (Refused why) ∷ []) → SaidB (Refused why) y1 y3 → length y1 ≡ length e1 → length y3 ≡ length e3
         → Sq W (Head e0 y1 e2 y3 (‵ (B.the-row .own (Refused why) (bval (Refused why) ∷ [])) ∷ Mid e0 y1 e2 y3 (Refused why))) (runs C Λ En refuse Then)
@@ -734,8 +734,13 @@ module _ {M : Type 1} (𝓤 : URA M) (H : Heap 𝓤) (A : Atoms 𝓤) (W : Given
         forget ! 32 refl $
         owned ! Q.the-row (Is Q.the-row) (LL.makes Q.the-type Q′.the-plain 𝓤 H A) (mk (synced.Refused why) w) _ isQ $
         move ! (1 ∷ 2 ∷ 3 ∷ 4 ∷ 5 ∷ 6 ∷ 7 ∷ 8 ∷ 9 ∷ 10 ∷ 11 ∷ 12 ∷ 0 ∷ []) $
-        fin (mk (synced.Refused why) w) e0 y1 e2 y3 (refused-whole n e0 e1 e2 e3 (now pg) cs seq w (numberOf why) y1 y3 (said .0) (said .1)) refl n1 refl n3 isQ
+        fin (mk (synced.Refused why) w) e0 y1 e2 y3 right refl n1 refl n3 isQ
       where
+        right : Right (mk (synced.Refused why) w) e0 y1 e2 y3
+        right =
+            let whole = refused-whole n e0 e1 e2 e3 (now pg) cs seq w (numberOf why) y1 y3 (said .0) (said .1) in
+            record { says = whole .0; writer = whole .1 .0; memory = whole .1 .1; widths = tt }
+
         isF : Is F.the-row why (EL.val F.the-type F′.the-laws why ∷ [])
         isF = EL.owed B.the-type B′.the-laws (Refused why) _ is .0
 
@@ -763,9 +768,14 @@ module _ {M : Type 1} (𝓤 : URA M) (H : Heap 𝓤) (A : Atoms 𝓤) (W : Given
         )
       where
         all : All st e0 y1 e2 y3 (EL.owed B.the-type B′.the-laws (Ready st) _ is .0)
-        all r z0 z1 z2 z3 e₁ e₂ a l said′ =
+        all r z0 z1 z2 z3 e₁ e₂ wide a l said′ =
             let whole : Right′ r z0 z1 z2 z3 = begun-whole n e0 e1 e2 e3 (now pg) cs seq w st y1 y3 (said .0) (said .1) (walkedSaid r) (memOf z0 z1 z2 z3) e₁ e₂ in
-            (said′ .0 ∙ whole .0, (said′ .1 .0 ∙ whole .1 .0, ap (memOf z0 z1 z2) (said′ .1 .1) ∙ whole .1 .1))
+            record {
+              says = said′ .0 ∙ whole .0;
+              writer = said′ .1 .0 ∙ whole .1 .0;
+              memory = ap (memOf z0 z1 z2) (said′ .1 .1) ∙ whole .1 .1;
+              widths = said-widths (syncedSaid (a .synced)) (walkSaid (r .walk)) (r .state) (log-only z3) cs seq (said′ .0) wide (isU .1);
+            }
 
     -- ---- the beginning
     abbrev lftsB : ℕ → ℕ → ℕ → Lfts 4

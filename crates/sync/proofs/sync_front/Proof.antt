@@ -52,7 +52,7 @@ use denote.Triple.Walked.{needs, says, Stays, gave-slice, stay-none, stay-none-s
 use denote.Exit.{yes}
 use Rattle.wal.specs.declared.Writer.{Writer}
 use Rattle.sync.specs.Change.{Mem, memOf}
-use Rattle.sync.specs.Sync.{syncedSaid, syncSays, syncWriter, syncMem}
+use Rattle.sync.specs.Sync.{SyncPromise}
 use Rattle.sync.specs.declared.Change.{Change}
 use Rattle.sync.specs.declared.SyncAnswer.{SyncAnswer}
 use Rattle.sync.proofs.Front.{others, front-out, front-in}
@@ -186,8 +186,7 @@ module _ {M : Type 1} (𝓤 : URA M) (H : Heap 𝓤) (A : Atoms 𝓤) (W : Given
   m = memOf e0 e1 e2 e3
 
   abbrev Said : SyncAnswer → List ℕ → List ℕ → List ℕ → List ℕ → Type 0
-  Said r z0 z1 z2 z3 = (syncedSaid (r .synced) ≡ syncSays n m (now pg) front seq) × ((r .writer ≡ syncWriter n m (now pg) front seq w) × (memOf z0 z1 z2 z3 ≡ syncMem n m
-      (now pg) front seq))
+  Said r z0 z1 z2 z3 = SyncPromise n m (now pg) front seq w r (memOf z0 z1 z2 z3)
 
   roomC : Room T.the-row (length front)
   roomC = subst (Room T.the-row) (sym len-front) (lt-of-le-of-lt le (lit< tt), lt-of-le-of-lt (mul-le-mul-right 72 le) (lit< tt))

@@ -4,7 +4,8 @@
 use mathlib.Core.Path.{_≡_, refl, sym, ap, subst, _∙_}
 use mathlib.Core.Logic.{⊎-elim}
 use Prim.Native.Nat.{ℕ, _+_, _-_, _<_, _≤_, _^_, zero-le}
-use native.Mathlib.Nat.{lt-of-le-of-lt, le-of-lt, le-of-eq, eq-or-lt-of-le}
+use native.Mathlib.Omega.{arith}
+use native.Mathlib.Nat.{le-trans, lt-of-le-of-lt, le-of-lt, le-of-eq, eq-or-lt-of-le}
 use native.Mathlib.Numerals.{add-one-le, add-one-dec}
 use mathlib.Core.Bool.{Bool}
 use mathlib.Core.List.{List, [], _∷_}
@@ -52,10 +53,11 @@ use denote.Triple.Spec.{Meets, tripleOf}
 use denote.Triple.Table.{entered, cited}
 use denote.Triple.Walked.{says, Stays, stay-slice, stay-none, stay-none-slice, walkOf, goes-slice, goes-none, goes-none-slice, Walks, ends-at, walked, walk-meets}
 use denote.Exit.{yes}
+use borrow.Author.Count.{below-more}
 use borrow.Author.Needs.{scaled-fits}
 use borrow.Author.Tests.{lt-ltb, le-ltb}
-use Rattle.sync.specs.Change.{Mem, memOf}
-use Rattle.sync.specs.Sync.{changeAt, changeMem, allOf, memAll, walkedSaid}
+use Rattle.sync.specs.Change.{Wide, Mem, memOf}
+use Rattle.sync.specs.Sync.{changeAt, changeMem, allOf, memAll, walkSaid, walkedSaid, wideIf}
 use Rattle.sync.specs.declared.Change.{Change}
 use Rattle.sync.specs.declared.SyncState.{SyncState}
 use Rattle.sync.specs.declared.Walked.{Walked}
@@ -63,6 +65,7 @@ use Rattle.sync.specs.declared.Walk.{Walk}
 use Rattle.sync.specs.declared.Walk.the-variants.{Through, RefusedAt}
 use Rattle.sync.proofs.Again.{LentAgain, lends-again, comes-back}
 use Rattle.sync.proofs.WalkLaws.{no-change, at-all, at-mem, end-all, end-mem}
+use Rattle.sync.proofs.Widths.{typed-wide, all-wide}
 use Rattle.sync.proofs.Change as T
 use Rattle.sync.proofs.Change.Laws as T′
 use Rattle.sync.proofs.SyncState as P
@@ -110,6 +113,9 @@ qval r = LL.val Q.the-type Q′.the-laws r
 abbrev mk : Walk → SyncState → Walked
 mk d st = record { walk = d; state = st }
 
+no-less : {k : ℕ} → k < 0 → ⊥
+no-less l = omega arith
+
 -- the loop's variables: the number of the next change, the four lists and the state, with what is known of them
 record St (x0 x1 x2 x3 pg : List ℕ) (cs : List Change) (start : SyncState) : Type 0 where
   i : ℕ
@@ -124,6 +130,7 @@ record St (x0 x1 x2 x3 pg : List ℕ) (cs : List Change) (start : SyncState) : T
   n2 : length y2 ≡ length x2
   n3 : length y3 ≡ length x3
   isP : Is P.the-row st (pval st ∷ [])
+  wide : (k : ℕ) → k < i → Wide (getD cs k no-change)
   all : allOf (memOf x0 x1 x2 x3) pg cs 0 start ≡ allOf (memOf y0 y1 y2 y3) pg (drop i cs) i st
   mems : memAll (memOf x0 x1 x2 x3) pg cs 0 start ≡ memAll (memOf y0 y1 y2 y3) pg (drop i cs) i st
 
@@ -198,7 +205,7 @@ module _ {M : Type 1} (𝓤 : URA M) (H : Heap 𝓤) (A : Atoms 𝓤) (W : Given
   OwnQ r = Q.the-row .own r (qval r ∷ [])
 
   abbrev Right : Walked → List ℕ → List ℕ → List ℕ → List ℕ → Type 0
-  Right r z0 z1 z2 z3 = (walkedSaid r ≡ allOf (memOf e0 e1 e2 e3) (now pg) cs 0 start) × (memOf z0 z1 z2 z3 ≡ memAll (memOf e0 e1 e2 e3) (now pg) cs 0 start)
+  Right r z0 z1 z2 z3 = (walkedSaid r ≡ allOf (memOf e0 e1 e2 e3) (now pg) cs 0 start) × ((memOf z0 z1 z2 z3 ≡ memAll (memOf e0 e1 e2 e3) (now pg) cs 0 start) × wideIf (walkSaid (r .walk)) cs)
 
   exits : (r : Walked) (z0 z1 z2 z3 : List ℕ) → Right r z0 z1 z2 z3 → length z0 ≡ length e0 → length z1 ≡ length e1 → length z2 ≡ length e2 → length z3 ≡ length e3
       → ent 𝓤 (⋆ 𝓤 H A (‵ (OwnT0 z0) ∷ ‵ (OwnT1 z1) ∷ ‵ (OwnT2 z2) ∷ ‵ (OwnT3 z3) ∷ ‵ (flft κ0 q0) ∷ ‵ (flft κ1 q1) ∷ ‵ (flft κ2 q2) ∷ ‵ (flft κ3 q3) ∷ ‵ (flft κ4 q4) ∷ ‵
@@ -376,7 +383,10 @@ module _ {M : Type 1} (𝓤 : URA M) (H : Heap 𝓤) (A : Atoms 𝓤) (W : Given
         move ! (1 ∷ 2 ∷ 3 ∷ 4 ∷ 5 ∷ 6 ∷ 7 ∷ 8 ∷ 9 ∷ 10 ∷ 11 ∷ 12 ∷ 0 ∷ []) $
         freed (mk (Through (t .i)) (t .st)) (t .y0) (t .y1) (t .y2) (t .y3) (
           sym (t .all ∙ end-all (memOf (t .y0) (t .y1) (t .y2) (t .y3)) (now pg) cs (t .i) (t .st) (t .le) over),
-          sym (t .mems ∙ end-mem (memOf (t .y0) (t .y1) (t .y2) (t .y3)) (now pg) cs (t .i) (t .st) (t .le) over),
+          (
+            sym (t .mems ∙ end-mem (memOf (t .y0) (t .y1) (t .y2) (t .y3)) (now pg) cs (t .i) (t .st) (t .le) over),
+            all-wide no-change cs (λ k l. t .wide k (le-trans l over)),
+          ),
         ) (t .n0) (t .n1) (t .n2) (t .n3)
       where
         isD : Is E.the-row (Through (t .i)) (EL.val E.the-type E′.the-laws (Through (t .i)) ∷ [])
@@ -428,11 +438,11 @@ module _ {M : Type 1} (𝓤 : URA M) (H : Heap 𝓤) (A : Atoms 𝓤) (W : Given
       Then = anyQ (afterSeq 𝓤 H (Wp 𝓤 H C Λ En inc (Turned t)) (Turned t))
 
       matched : (d : Walk) (st′ : SyncState) (z0 z1 z2 z3 : List ℕ) → Is Q.the-row (mk d st′) (qval (mk d st′) ∷ []) → changeAt m (now pg) elem i (t .st) ≡ walkedSaid (mk d st′)
-          → memOf z0 z1 z2 z3 ≡ changeMem m (now pg) elem i (t .st)
+          → memOf z0 z1 z2 z3 ≡ changeMem m (now pg) elem i (t .st) → Wide elem
           → length z0 ≡ length y0 → length z1 ≡ length y1 → length z2 ≡ length y2 → length z3 ≡ length y3
           → Sq W (Head z0 z1 z2 z3 (‵ (OwnQ (mk d st′)) ∷ Mat i z0 z1 z2 z3 (t .st) d st′)) (runs C Λ En tail (anyQ (Turned t)))
       unfolding afterTurn
-      matched (Through j) st′ z0 z1 z2 z3 is e z n0 n1 n2 n3 =
+      matched (Through j) st′ z0 z1 z2 z3 is e z here n0 n1 n2 n3 =
           assigns ! (of-opd ! (load ! (from ! (fld ! refl (stop !))) (look-in ! 41 (sub ! 0 refl (whole !))))) (from ! (stop !)) (init ! 39 refl
           (EL.lawful E.the-type E′.the-laws 𝓤 H A W tt .typed (Through j) _ (LL.owed Q.the-type Q′.the-laws (mk (Through j) st′) _ is .0) .0)) $
           first ! $ switches-on ! (load ! (from ! (vrt ! refl (fld ! refl (stop !)))) (look-tag ! 39 (whole !))) $
@@ -460,10 +470,11 @@ module _ {M : Type 1} (𝓤 : URA M) (H : Heap 𝓤) (A : Atoms 𝓤) (W : Given
             n2 = n2 ∙ t .n2;
             n3 = n3 ∙ t .n3;
             isP = LL.owed Q.the-type Q′.the-laws (mk (Through j) st′) _ is .1 .0;
+            wide = below-more (λ (k : ℕ). Wide (getD cs k no-change)) i (t .wide) here;
             all = t .all ∙ at-all m (now pg) cs i (t .st) less (walkedSaid (mk (Through j) st′)) e ∙ ap (λ (w : Mem). allOf w (now pg) (drop (i + 1) cs) (i + 1) st′) (sym z);
             mems = t .mems ∙ at-mem m (now pg) cs i (t .st) less (walkedSaid (mk (Through j) st′)) e ∙ ap (λ (w : Mem). memAll w (now pg) (drop (i + 1) cs) (i + 1) st′) (sym z);
           } (add-one-dec (length cs) i less)
-      matched (RefusedAt j k) st′ z0 z1 z2 z3 is e z n0 n1 n2 n3 =
+      matched (RefusedAt j k) st′ z0 z1 z2 z3 is e z here n0 n1 n2 n3 =
           assigns ! (of-opd ! (load ! (from ! (fld ! refl (stop !))) (look-in ! 41 (sub ! 0 refl (whole !))))) (from ! (stop !)) (init ! 39 refl
           (EL.lawful E.the-type E′.the-laws 𝓤 H A W tt .typed (RefusedAt j k) _ (LL.owed Q.the-type Q′.the-laws (mk (RefusedAt j k) st′) _ is .0) .0)) $
           first ! $ switches-on ! (load ! (from ! (vrt ! refl (fld ! refl (stop !)))) (look-tag ! 39 (whole !))) $
@@ -485,8 +496,7 @@ module _ {M : Type 1} (𝓤 : URA M) (H : Heap 𝓤) (A : Atoms 𝓤) (W : Given
           forget ! 39 refl $
           freed (mk (RefusedAt j k) st′) z0 z1 z2 z3 (
             sym (t .all ∙ at-all m (now pg) cs i (t .st) less (walkedSaid (mk (RefusedAt j k) st′)) e),
-            z ∙ sym (t .mems ∙ at-mem m
-                (now pg) cs i (t .st) less (walkedSaid (mk (RefusedAt j k) st′)) e),
+            (z ∙ sym (t .mems ∙ at-mem m (now pg) cs i (t .st) less (walkedSaid (mk (RefusedAt j k) st′)) e), tt),
           ) (n0 ∙ t .n0) (n1 ∙ t .n1) (n2 ∙ t .n2) (n3 ∙ t .n3)
 
       -- the call of `change_at`
@@ -717,14 +727,14 @@ module _ {M : Type 1} (𝓤 : URA M) (H : Heap 𝓤) (A : Atoms 𝓤) (W : Given
           forget ! 15 refl $
           forget ! 13 refl $
           matched (r .walk) (r .state) (zs .0) (zs .1 .0) (zs .1 .1 .0) (zs .1 .1 .1 .0) (subst (Is Q.the-row r) (LL.tells Q.the-type Q′.the-laws r _ is) is) (sym (e .0))
-          (e .1) n0 n1 n2 n3)))))))))))))))))))
+          (e .1) (typed-wide elem _ g) n0 n1 n2 n3)))))))))))))))))))
 
     turns : (t : Var) → Sq W (At t) (runs C Λ En mir.turn-1 (anyQ (Turned t)))
     turns t = ⊎-elim (λ (e : t .i ≡ length cs). ends t (le-of-eq (sym e))) (λ less. more t less (subst (Room u8) (sym (t .n0)) room0) (subst (Room u8) (sym (t .n1)) room1) (subst
         (Room u64) (sym (t .n2)) room2) (subst (Room u8) (sym (t .n3)) room3)) (eq-or-lt-of-le (t .le))
 
     abbrev begin : Var
-    begin = record { i = 0; y0 = e0; y1 = e1; y2 = e2; y3 = e3; st = start; le = zero-le; n0 = refl; n1 = refl; n2 = refl; n3 = refl; isP = isS; all = refl; mems = refl }
+    begin = record { i = 0; y0 = e0; y1 = e1; y2 = e2; y3 = e3; st = start; le = zero-le; n0 = refl; n1 = refl; n2 = refl; n3 = refl; isP = isS; wide = λ k l. absurd (no-less l); all = refl; mems = refl }
 
     looped : Sq W (At begin) (runs C Λ En mir.t-3 (atRet En Post))
     looped = first ! $ blocks ! $ loops ! 𝓣 Nearer Nearer-wf At turns begin

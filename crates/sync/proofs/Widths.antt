@@ -1,0 +1,50 @@
+-- The widths of a change's parts, out of what its type says of it; and of a whole list, change by change. Assumes nothing.
+use mathlib.Core.Path.{_≡_, refl, sym, ap, _∙_, subst}
+use mathlib.Core.List.{List, [], _∷_, map}
+use Prim.Native.Nat.{ℕ, zero, suc, _+_, _<_, _^_}
+use native.Mathlib.Omega.{arith}
+use lib.ListN.{length, getD}
+use mir.Val.{Val}
+use denote.Array.{each}
+use denote.Builtin.{u64}
+use denote.Laws.{Is}
+use denote.Shadow.{shadow}
+use borrow.Author.Needs.{needs}
+use Rattle.answers.specs.Answers.{Answer, given, refused}
+use Rattle.wal.specs.Writer.{finishAnswer}
+use Rattle.sync.specs.Change.{Mem, Wide, AllWide, none-wide, more-wide}
+use Rattle.sync.specs.Sync.{Came, through, refusedAt, wideIf, SyncSaid, saidDone, saidRefused, saidRefusedAt, saidFinish, saidBy, widthsBy}
+use Rattle.sync.specs.declared.Change.{Change}
+use Rattle.sync.specs.declared.SyncState.{SyncState}
+use Rattle.sync.proofs.Change as T
+
+-- each element of an array of u64 fits
+elements-fit : (xs : List ℕ) (us : List Val) → shadow (each ℕ (u64 .own) (map (λ v. v) xs) us) → (i : ℕ) → getD xs i 0 < 2 ^ 64
+elements-fit [] us s i = omega arith
+elements-fit (x ∷ xs) [] s i = absurd s
+elements-fit (x ∷ xs) (u ∷ us) s zero = s .0 .1
+elements-fit (x ∷ xs) (u ∷ us) s (suc i) = elements-fit xs us (s .1) i
+
+pub typed-wide : (c : Change) (vs : List Val) → Is T.the-row c vs → Wide c
+typed-wide c vs is =
+    let words = is .1 .1 .1 .1 .0 .1 .1 .0 in
+    record {
+      id-long = search needs;
+      two-words = search needs;
+      low-word = elements-fit (c .diff .words) (words .0) (words .1 .1) 0;
+      high-word = elements-fit (c .diff .words) (words .0) (words .1 .1) 1;
+    }
+
+-- all of a list are, where each is
+pub all-wide : (d : Change) (cs : List Change) → ((i : ℕ) → i < length cs → Wide (getD cs i d)) → AllWide cs
+all-wide d [] f = none-wide
+all-wide d (c ∷ cs) f = more-wide (f 0 (omega arith)) (all-wide d cs (λ i l. f (suc i) (omega arith)))
+
+-- what a sync says of the widths, by where its changes came to
+pub said-widths : (s : SyncSaid) (c : Came) (st : SyncState) (m : Mem) (cs : List Change) (sync : ℕ) → s ≡ saidBy c st m → wideIf c cs → sync < 2 ^ 32 → widthsBy s cs sync
+said-widths s (refusedAt j k) st m cs sync e w l = subst (λ (x : SyncSaid). widthsBy x cs sync) (sym e) tt
+said-widths s (through j) st m cs sync e w l = subst (λ (x : SyncSaid). widthsBy x cs sync) (sym e) (go (finishAnswer (m .log) (st .writer)))
+  where
+    go : (a : Answer ℕ) → widthsBy (saidFinish a (st .occupied)) cs sync
+    go (given len) = (w, l)
+    go (refused k) = tt
