@@ -49,11 +49,11 @@ module _ (n sync : ℕ) (es : List Entry) (all : AllWellFormed es) (small : sync
       ∙ ap (λ (r : Reading). replayed n (withHashes (r .entries) hashes) table) (entries-back sync es all)
 
 -- 5. acceptance, for a log that accepted calls wrote and finish closed
-pub finished-accepted : (log₀ : List ℕ) (sync : ℕ) (w : Writer) (log : List ℕ) (es : List Entry) → Run log₀ sync w log es → sync < 2 ^ 32 → (n : ℕ) (table hashes : List ℕ) → allInside n es ≡ true → imageFits n (length table) ≡ true
+pub finished-accepted : (log₀ : List ℕ) (sync : ℕ) (w : Writer) (log : List ℕ) (es : List Entry) → Run log₀ sync w log es → (n : ℕ) (table hashes : List ℕ) → allInside n es ≡ true → imageFits n (length table) ≡ true
     → length hashes ≡ updatesIn es → replayAnswer n table (take (finishedLength (startSize + length (recordsOf es))) (finishLog log w)) sync hashes ≡ given applied
-finished-accepted log₀ sync w log es run small n table hashes inside fits e =
+finished-accepted log₀ sync w log es run n table hashes inside fits e =
     ap (λ (l : List ℕ). replayAnswer n table l sync hashes) (finished-log log₀ sync w log es run)
-    ∙ replay-accepts n sync es (run-made log₀ sync run .all) small inside table hashes fits e
+    ∙ replay-accepts n sync es (run-made log₀ sync run .all) (run-made log₀ sync run .number) inside table hashes fits e
 
 -- the answer looks at the image's length alone, so it is the same for a table and for what stops leave of it
 pub answer-by-length : (n : ℕ) (a b log : List ℕ) (sync : ℕ) (hashes : List ℕ) → length a ≡ length b → replayAnswer n a log sync hashes ≡ replayAnswer n b log sync hashes

@@ -10,6 +10,8 @@ use denote.Enum.Declared.{tagOf}
 use borrow.Author.Tests.{eqb-true}
 use Rattle.answers.specs.Answers.{Answer, given, refused, accepted}
 use Rattle.answers.proofs.Laws.{given-one, given-refused}
+use Rattle.blocks.specs.Blocks.{block}
+use Rattle.blocks.proofs.Laws.{block-length}
 use Rattle.ht_file.specs.Places.{tagsFit, tagPages}
 use Rattle.ht_file.proofs.Laws.{tags-fit-facts}
 use Rattle.page_diff.specs.Diff.{reserved, countOf}
@@ -17,7 +19,7 @@ use Rattle.probe.specs.Path.{allocating, hitLimit, allocateAnswer}
 use Rattle.probe.proofs.Allocating.{answer-below}
 use Rattle.wal.specs.Log.{Entry, startSize, recordsOf, clearSize, updateSize, finishedLength}
 use Rattle.wal.specs.Reader.{Reading, startOf, readLog}
-use Rattle.wal.specs.Run.{Run, begun, with-clear}
+use Rattle.wal.specs.Run.{Wide as WideUpdate, Run, begun, with-clear}
 use Rattle.wal.specs.Writer.{beginAnswer, beginLog, beginWriter, finishAnswer, finishLog}
 use Rattle.wal.specs.declared.Writer.{Writer}
 use Rattle.wal.specs.declared.Writer.the-variants.{Fresh, Open}
@@ -57,7 +59,15 @@ module _ (log₀ : List ℕ) (sync : ℕ) (st : SyncState) (m : Mem) (page : Lis
   page-went : (b : ℕ) → b < 2 ^ 64 → length page ≡ 4096 → reserved ws ≡ false → roomIn (length l) w (updateSize (countOf ws)) ≡ true → Went (updated b)
   page-went b h long plain room =
       let k = page-taken w l ws page opened long plain room in
-      let r = run-page (c .id) ws page b (sized .id-long) (sized .two-words) (sized .low-word) (sized .high-word) h log₀ sync w l es run (ap accepted k) in
+      let wide : WideUpdate (c .id) ws (block 8 page 4056) b = record {
+        id-long = sized .id-long;
+        two-words = sized .two-words;
+        low-word = sized .low-word;
+        high-word = sized .high-word;
+        elided-long = block-length 8 page 4056;
+        bucket = h;
+      } in
+      let r = run-page (c .id) ws page b wide log₀ sync w l es run (ap accepted k) in
       subst (λ (x : Writer). Run log₀ sync x (memBy (given (updated b)) st m page c .log) (es ++ (pageUpdate (c .id) ws page b ∷ []))) (page-state w l ws page k)
       (subst (λ (x : List ℕ). Run log₀ sync (pageUpdateWriter l w ws page) x (es ++ (pageUpdate (c .id) ws page b ∷ []))) (page-bytes w l ws page k (c .id) b) r)
 
@@ -130,7 +140,7 @@ start-passed n m pages count h =
     (q .0, eqb-true (length pages) (4096 * count) (q .1), eqb-true (length (m .marks)) (tagPages n) (q .2), q .3)
 
 -- the whole: its log starts the slice, has the length that is answered, and reads back
-module _ (n : ℕ) (m : Mem) (pages : List ℕ) (cs : List Change) (sync o len : ℕ) (sized : AllWide cs) (h : syncSays n m pages cs sync ≡ saidDone o len) where
+module _ (n : ℕ) (m : Mem) (pages : List ℕ) (cs : List Change) (sync o len : ℕ) (sized : AllWide cs) (small : sync < 2 ^ 32) (h : syncSays n m pages cs sync ≡ saidDone o len) where
   abbrev pub entries : List Entry
   entries = entriesOf (startMem m sync) pages cs 0 (startState n m)
 
@@ -148,7 +158,7 @@ module _ (n : ℕ) (m : Mem) (pages : List ℕ) (cs : List Change) (sync o len :
   done-run =
       let ok = start-passed n m pages (length cs) (parts .0) .3 in
       all-logged (m .log) sync pages cs sized (startMem m sync) 0 (startState n m) []
-      (subst (λ (x : Writer). Run (m .log) sync x (beginLog (m .log) sync) []) (begun-open (m .log) sync ok) (begun Fresh (ap accepted ok)))
+      (subst (λ (x : Writer). Run (m .log) sync x (beginLog (m .log) sync) []) (begun-open (m .log) sync ok) (begun Fresh small (ap accepted ok)))
 
   pub done-length : len ≡ finishedLength (startSize + length (recordsOf entries))
   done-length = given-one len (finishedLength (startSize + length (recordsOf entries))) (sym (parts .1) ∙ finish-fits (m .log) sync (end .writer) (last .log) entries done-run)
@@ -158,9 +168,9 @@ module _ (n : ℕ) (m : Mem) (pages : List ℕ) (cs : List Change) (sync o len :
   done-log =
       ap (λ (b : Answer (Unit {0})). keptIf b m (memOf (last .tags) (last .marks) (last .cells) (logAfter (came n m pages cs sync .came) end last)) .log) (parts .0) ∙ parts .2
 
-  pub done-start : sync < 2 ^ 32 → startOf (take len (syncMem n m pages cs sync .log)) ≡ given sync
-  done-start s =
-      ap₂ (λ (k : ℕ) (x : List ℕ). startOf (take k x)) done-length done-log ∙ round-trip-start (m .log) sync (end .writer) (last .log) entries done-run s
+  pub done-start : startOf (take len (syncMem n m pages cs sync .log)) ≡ given sync
+  done-start =
+      ap₂ (λ (k : ℕ) (x : List ℕ). startOf (take k x)) done-length done-log ∙ round-trip-start (m .log) sync (end .writer) (last .log) entries done-run
 
   pub done-back : readLog (take len (syncMem n m pages cs sync .log)) ≡ record { entries = entries; at = startSize + length (recordsOf entries); stop = given tt }
   done-back =

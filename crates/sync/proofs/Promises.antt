@@ -114,10 +114,10 @@ module _ (n : ℕ) (m : Mem) (pages : List ℕ) (cs : List Change) (sync : ℕ) 
 
     -- "A finished log reads back as exactly the entries written"
     pub sync-reads-start : startOf (take len (after .log)) ≡ given sync
-    sync-reads-start = ap startOf (sym same-log) ∙ done-start n m pages cs sync o len (widths .0) says (widths .1)
+    sync-reads-start = ap startOf (sym same-log) ∙ done-start n m pages cs sync o len (widths .0) (widths .1) says
 
     pub sync-reads-back : readLog (take len (after .log)) ≡ record { entries = logged; at = startSize + length (recordsOf logged); stop = given tt }
-    sync-reads-back = ap readLog (sym same-log) ∙ done-back n m pages cs sync o len (widths .0) says
+    sync-reads-back = ap readLog (sym same-log) ∙ done-back n m pages cs sync o len (widths .0) (widths .1) says
 
     came-through : (i : ℕ) × (came n m pages cs sync .came ≡ through i)
     unfolding syncSays

@@ -52,6 +52,6 @@ pub done-replays : (n : ℕ) (m : Mem) (pages : List ℕ) (cs : List Change) (sy
     → (table hashes : List ℕ) → imageFits n (length table) ≡ true → length hashes ≡ updatesIn (entriesOf (startMem m sync) pages cs 0 (startState n m))
     → replayAnswer n table (take len (syncMem n m pages cs sync .log)) sync hashes ≡ given applied
 done-replays n m pages cs sync o len sized h small table hashes fits e =
-    ap₂ (λ (k : ℕ) (x : List ℕ). replayAnswer n table (take k x) sync hashes) (done-length n m pages cs sync o len sized h) (done-log n m pages cs sync o len sized h)
-    ∙ finished-accepted (m .log) sync (came n m pages cs sync .state .writer) (left n m pages cs sync .log) (entriesOf (startMem m sync) pages cs 0 (startState n m)) (done-run n m pages cs sync o len sized h) small n table hashes
+    ap₂ (λ (k : ℕ) (x : List ℕ). replayAnswer n table (take k x) sync hashes) (done-length n m pages cs sync o len sized small h) (done-log n m pages cs sync o len sized small h)
+    ∙ finished-accepted (m .log) sync (came n m pages cs sync .state .writer) (left n m pages cs sync .log) (entriesOf (startMem m sync) pages cs 0 (startState n m)) (done-run n m pages cs sync o len sized small h) n table hashes
     (all-inside pages cs (startMem m sync) 0 (startState n m)) fits e

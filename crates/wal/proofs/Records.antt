@@ -14,7 +14,7 @@ use Rattle.blocks.proofs.Laws.{block-at, bytes-length, le-bytesOf}
 use Rattle.page_diff.specs.Diff.{wordsOf, bytesOfWords, countOf, reserved}
 use Rattle.wal.specs.Log.{Entry, clear, update, mark, flat, recordOf, clearSize, updateSize}
 use Rattle.wal.specs.Reader.{Next, next, ended, stopped, clearAt, nodesFrom, diffAt, updateOf, updateAt, byTag, nextAt}
-use Rattle.wal.specs.Run.{Handed, WellFormed}
+use Rattle.wal.specs.Run.{Rows, Handed, WellFormed}
 
 -- a part of a list that stands whole in it
 pub block-in : (k : ℕ) (s : List ℕ) (at : ℕ) (p xs q : List ℕ) → s ≡ p ++ (xs ++ q) → at ≡ length p → length xs ≡ k → block k s at ≡ xs
@@ -27,7 +27,7 @@ pub byte-in : (s : List ℕ) (at : ℕ) (p : List ℕ) (b : ℕ) (q : List ℕ) 
 byte-in s at p b q e f = ap (λ (x : List ℕ). getD x at 0) e ∙ getD-at p b q 0 at (sym f)
 
 -- ---- the widths of a record's parts
-pub flat-length : (ns : List (List ℕ)) → ((i : ℕ) → i < length ns → length (getD ns i []) ≡ 32) → length (flat ns) ≡ 32 * length ns
+pub flat-length : (ns : List (List ℕ)) → Rows ns (length ns) → length (flat ns) ≡ 32 * length ns
 unfolding flat
 flat-length [] h = refl
 flat-length (n ∷ ns) h =
@@ -51,10 +51,10 @@ update-length id ws ns el b h =
       length-append (bytesOfWords ws) (flat ns ++ (el ++ bytesOf 8 b)),
       length-append (flat ns) (el ++ bytesOf 8 b),
       length-append el (bytesOf 8 b),
-      h .id-long,
+      h .wide .id-long,
       words-length ws,
       flat-length ns (h .rows),
-      h .elided-long,
+      h .wide .elided-long,
       bytes-length 8 b,
     )
 
@@ -72,7 +72,7 @@ words-back (x ∷ y ∷ []) e h k =
 words-back (x ∷ y ∷ z ∷ ws) e h k = absurd (omega arith)
 
 -- ---- the nodes, one after the other
-pub nodes-in : (s : List ℕ) (p : ℕ) (ns : List (List ℕ)) (pre post : List ℕ) → s ≡ pre ++ (flat ns ++ post) → p ≡ length pre → ((i : ℕ) → i < length ns → length (getD ns i []) ≡ 32)
+pub nodes-in : (s : List ℕ) (p : ℕ) (ns : List (List ℕ)) (pre post : List ℕ) → s ≡ pre ++ (flat ns ++ post) → p ≡ length pre → Rows ns (length ns)
     → nodesFrom s p (length ns) ≡ ns
 unfolding nodesFrom flat
 nodes-in s p [] pre post e f h = refl
@@ -128,7 +128,7 @@ module _ (pre post id ws : List ℕ) (ns : List (List ℕ)) (el : List ℕ) (b :
   head-1 = length-append pre (mark 4)
 
   head-33 : length ((pre ++ mark 4) ++ id) ≡ length pre + 33
-  head-33 = omega (arith, head-1, length-append (pre ++ mark 4) id, h .id-long)
+  head-33 = omega (arith, head-1, length-append (pre ++ mark 4) id, h .wide .id-long)
 
   head-49 : length (((pre ++ mark 4) ++ id) ++ bytesOfWords ws) ≡ length pre + 49
   head-49 = omega (arith, head-33, length-append ((pre ++ mark 4) ++ id) (bytesOfWords ws), words-length ws)
@@ -137,18 +137,18 @@ module _ (pre post id ws : List ℕ) (ns : List (List ℕ)) (el : List ℕ) (b :
   head-nodes = omega (arith, head-49, length-append (((pre ++ mark 4) ++ id) ++ bytesOfWords ws) (flat ns), flat-length ns (h .rows))
 
   head-elided : length (((((pre ++ mark 4) ++ id) ++ bytesOfWords ws) ++ flat ns) ++ el) ≡ length pre + 57 + 32 * length ns
-  head-elided = omega (arith, head-nodes, length-append ((((pre ++ mark 4) ++ id) ++ bytesOfWords ws) ++ flat ns) el, h .elided-long)
+  head-elided = omega (arith, head-nodes, length-append ((((pre ++ mark 4) ++ id) ++ bytesOfWords ws) ++ flat ns) el, h .wide .elided-long)
 
   id-back : block 32 withUpdate (length pre + 1) ≡ id
   unfolding recordOf
   id-back =
-      block-in 32 withUpdate (length pre + 1) (pre ++ mark 4) id ((bytesOfWords ws ++ (flat ns ++ (el ++ bytesOf 8 b))) ++ post) (simp append-assoc) (sym head-1) (h .id-long)
+      block-in 32 withUpdate (length pre + 1) (pre ++ mark 4) id ((bytesOfWords ws ++ (flat ns ++ (el ++ bytesOf 8 b))) ++ post) (simp append-assoc) (sym head-1) (h .wide .id-long)
 
   diff-back : diffAt withUpdate (length pre) ≡ ws
   unfolding recordOf
   diff-back =
       ap wordsOf (block-in 16 withUpdate (length pre + 33) ((pre ++ mark 4) ++ id) (bytesOfWords ws) ((flat ns ++ (el ++ bytesOf 8 b)) ++ post) (simp append-assoc) (sym head-33) (words-length ws))
-      ∙ words-back ws (h .two-words) (h .low-word) (h .high-word)
+      ∙ words-back ws (h .wide .two-words) (h .wide .low-word) (h .wide .high-word)
 
   count-back : countOf (diffAt withUpdate (length pre)) ≡ length ns
   count-back = ap countOf diff-back ∙ sym (h .counted)
@@ -161,13 +161,13 @@ module _ (pre post id ws : List ℕ) (ns : List (List ℕ)) (el : List ℕ) (b :
   elided-back : block 8 withUpdate (length pre + 49 + 32 * length ns) ≡ el
   unfolding recordOf
   elided-back =
-      block-in 8 withUpdate (length pre + 49 + 32 * length ns) ((((pre ++ mark 4) ++ id) ++ bytesOfWords ws) ++ flat ns) el (bytesOf 8 b ++ post) (simp append-assoc) (sym head-nodes) (h .elided-long)
+      block-in 8 withUpdate (length pre + 49 + 32 * length ns) ((((pre ++ mark 4) ++ id) ++ bytesOfWords ws) ++ flat ns) el (bytesOf 8 b ++ post) (simp append-assoc) (sym head-nodes) (h .wide .elided-long)
 
   bucket-back : le (block 8 withUpdate (length pre + 57 + 32 * length ns)) ≡ b
   unfolding recordOf
   bucket-back =
       ap le (block-in 8 withUpdate (length pre + 57 + 32 * length ns) (((((pre ++ mark 4) ++ id) ++ bytesOfWords ws) ++ flat ns) ++ el) (bytesOf 8 b) post (simp append-assoc) (sym head-elided) (bytes-length 8 b))
-      ∙ le-bytesOf 8 b (h .bucket)
+      ∙ le-bytesOf 8 b (h .wide .bucket)
 
   -- the entry out of its parts
   abbrev parts : ℕ → Entry

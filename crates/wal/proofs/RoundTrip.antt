@@ -110,6 +110,7 @@ all-snoc (x ∷ es) e (more k hs) h = more k (all-snoc es e hs h)
 
 -- what a run has made: an open writer after the records, which stand at the start of the slice with room for an end
 pub record Made (log₀ : List ℕ) (sync : ℕ) (w : Writer) (log : List ℕ) (es : List Entry) : Type 0 where
+  pub number : sync < 2 ^ 32
   pub all : AllWellFormed es
   pub is-open : w ≡ Open (startSize + length (recordsOf es))
   pub same-log : log ≡ put log₀ 0 (startRecord sync ++ recordsOf es)
@@ -128,14 +129,15 @@ same-capacity a b e = ap (λ (n : ℕ). n / 4096 * 4096) e
 
 -- one record more
 module _ (log₀ : List ℕ) (sync : ℕ) (log : List ℕ) (es : List Entry) (e : Entry) (h : WellFormed e) where
-  grown : (pos : ℕ) → AllWellFormed es → pos ≡ startSize + length (recordsOf es) → log ≡ put log₀ 0 (startRecord sync ++ recordsOf es) → pos + length (recordOf e) + 1 ≤ capacity log
+  grown : (pos : ℕ) → sync < 2 ^ 32 → AllWellFormed es → pos ≡ startSize + length (recordsOf es) → log ≡ put log₀ 0 (startRecord sync ++ recordsOf es) → pos + length (recordOf e) + 1 ≤ capacity log
       → Made log₀ sync (Open (pos + length (recordOf e))) (put log pos (recordOf e)) (es ++ (e ∷ []))
-  grown pos hs at-end made fits =
+  grown pos small hs at-end made fits =
       let long : length log ≡ length log₀ = ap length made ∙ put-length log₀ 0 (startRecord sync ++ recordsOf es) in
       let done : length (startRecord sync ++ recordsOf es) ≡ pos = length-append (startRecord sync) (recordsOf es) ∙ ap (λ (n : ℕ). n + length (recordsOf es)) (start-length sync) ∙ sym at-end in
       let count : length (recordsOf (es ++ (e ∷ []))) ≡ length (recordsOf es) + length (recordOf e) = ap length (records-snoc es e) ∙ length-append (recordsOf es) (recordOf e) in
       let place : pos ≡ 0 + length (startRecord sync ++ recordsOf es) = omega arith in
       record {
+        number = small;
         all = all-snoc es e hs h;
         is-open = ap Open (omega arith);
         same-log =
@@ -172,7 +174,7 @@ record-step log₀ sync w log es e h a size long room made ok =
 
     at-open : accepted (a (Open pos)) ≡ true → Made log₀ sync (recordWriter (a (Open pos)) (Open pos) size) (recordLog (a (Open pos)) log (Open pos) (recordOf e)) (es ++ (e ∷ []))
     at-open yes-there =
-        let m = grown log₀ sync log es e h pos (made .all) refl (made .same-log) (omega (arith, room pos yes-there)) in
+        let m = grown log₀ sync log es e h pos (made .number) (made .all) refl (made .same-log) (omega (arith, room pos yes-there)) in
         subst₂ (λ (v : Writer) (l : List ℕ). Made log₀ sync v l (es ++ (e ∷ [])))
         (ap (λ (n : ℕ). Open (pos + n)) (sym long) ∙ sym (ap (λ (t : Bool). cond t (Open (pos + size)) (Open pos)) yes-there))
         (sym (ap (λ (t : Bool). cond t (put log pos (recordOf e)) log) yes-there)) m
@@ -180,9 +182,10 @@ record-step log₀ sync w log es e h a size long room made ok =
 -- what a run has made, call by call
 pub run-made : (log₀ : List ℕ) (sync : ℕ) {w : Writer} {log : List ℕ} {es : List Entry} → Run log₀ sync w log es → Made log₀ sync w log es
 unfolding beginAnswer recordsOf
-run-made log₀ sync (begun w ok) =
+run-made log₀ sync (begun w small ok) =
     let fits : leb 4096 (capacity log₀) ≡ true = room-held (leb 4096 (capacity log₀)) tt 13 ok in
     record {
+      number = small;
       all = none;
       is-open = ap (λ (t : Bool). cond t (Open startSize) w) ok;
       same-log = ap (λ (t : Bool). cond t (put log₀ 0 (startRecord sync)) log₀) ok ∙ ap (put log₀ 0) (sym (append-nil (startRecord sync)));
@@ -229,8 +232,8 @@ module _ (log₀ : List ℕ) (sync : ℕ) (w : Writer) (log : List ℕ) (es : Li
       ∙ append-assoc (startRecord sync) (recordsOf es) (endRecord endAt)
 
   -- the round trip
-  pub round-trip-start : sync < 2 ^ 32 → startOf (take (finishedLength (startSize + length (recordsOf es))) (finishLog log w)) ≡ given sync
-  round-trip-start h = ap startOf finished-log ∙ start-back sync es h
+  pub round-trip-start : startOf (take (finishedLength (startSize + length (recordsOf es))) (finishLog log w)) ≡ given sync
+  round-trip-start = ap startOf finished-log ∙ start-back sync es (run-made log₀ sync run .number)
 
   pub round-trip : readLog (take (finishedLength (startSize + length (recordsOf es))) (finishLog log w)) ≡ record { entries = es; at = startSize + length (recordsOf es); stop = given tt }
   round-trip = ap readLog finished-log ∙ entries-back sync es (run-made log₀ sync run .all)

@@ -11,17 +11,25 @@ use Rattle.wal.specs.Log.{Entry, clear, update, recordOf, startRecord, s
 use Rattle.wal.specs.Writer.{beginAnswer, beginLog, beginWriter, clearAnswer, updateAnswer, recordLog, recordWriter}
 use Rattle.wal.specs.declared.Writer.{Writer}
 
--- an update that a call can hand over: every part has its width, and the diff marks nodes alone
-pub record Handed (id ws : List ℕ) (ns : List (List ℕ)) (elided : List ℕ) (b : ℕ) : Type 0 where
+-- what the types of an update's parts say: their widths
+pub record Wide (id ws elided : List ℕ) (b : ℕ) : Type 0 where
   pub id-long : length id ≡ 32
   pub two-words : length ws ≡ 2
   pub low-word : getD ws 0 0 < 2 ^ 64
   pub high-word : getD ws 1 0 < 2 ^ 64
-  pub plain : reserved ws ≡ false
-  pub counted : length ns ≡ countOf ws
-  pub rows : (i : ℕ) → i < length ns → length (getD ns i []) ≡ 32
   pub elided-long : length elided ≡ 8
   pub bucket : b < 2 ^ 64
+
+-- and of its nodes: the first n rows of a table are nodes
+abbrev pub Rows : List (List ℕ) → ℕ → Type 0
+Rows ns n = (i : ℕ) → i < n → length (getD ns i []) ≡ 32
+
+-- an update that a call can hand over: every part has its width, and the diff marks nodes alone
+pub record Handed (id ws : List ℕ) (ns : List (List ℕ)) (elided : List ℕ) (b : ℕ) : Type 0 where
+  pub wide : Wide id ws elided b
+  pub plain : reserved ws ≡ false
+  pub counted : length ns ≡ countOf ws
+  pub rows : Rows ns (length ns)
 
 -- an entry that a call can hand over
 abbrev pub WellFormed : Entry → Type 0
@@ -30,7 +38,7 @@ WellFormed (update id ws ns elided b) = Handed id ws ns elided b
 
 -- accepted calls, one after the other, on a slice that held log₀: the state and the log they leave, and the entries they wrote
 pub data Run (log₀ : List ℕ) (sync : ℕ) : Writer → List ℕ → List Entry → Type 0 where
-  begun : (w : Writer) → accepted (beginAnswer log₀) ≡ true → Run log₀ sync (beginWriter log₀ w) (beginLog log₀ sync) []
+  begun : (w : Writer) → sync < 2 ^ 32 → accepted (beginAnswer log₀) ≡ true → Run log₀ sync (beginWriter log₀ w) (beginLog log₀ sync) []
   with-clear : (w : Writer) (log : List ℕ) (es : List Entry) (b : ℕ) → Run log₀ sync w log es → b < 2 ^ 64 → accepted (clearAnswer log w) ≡ true
       → Run log₀ sync (recordWriter (clearAnswer log w) w clearSize) (recordLog (clearAnswer log w) log w (recordOf (clear b))) (es ++ (clear b ∷ []))
   with-update : (w : Writer) (log : List ℕ) (es : List Entry) (id ws : List ℕ) (ns : List (List ℕ)) (elided : List ℕ) (b : ℕ)

@@ -83,6 +83,14 @@ nodes-start s at ns h = record { wide = refl; there = put-nothing s at h }
 pub nodes-length : (s : List ℕ) (at : ℕ) (ns : List (List ℕ)) (t : List ℕ) (c : ℕ) → Nodes s at ns t c → length t ≡ length s
 nodes-length s at ns t c inv = ap length (inv .there) ∙ put-length s at (flat (take c ns))
 
+-- a row that has 32 bytes is there
+pub row-there : (ns : List (List ℕ)) (c : ℕ) → length (getD ns c []) ≡ 32 → c < length ns
+row-there ns c l = go (decLe (length ns) c)
+  where
+    go : Dec (length ns ≤ c) → c < length ns
+    go (yes p) = absurd (omega (arith, ap length (List·getD-eq-default ns [] {n = c} p)))
+    go (no p) = lt-of-not-le p
+
 module _ (s : List ℕ) (at : ℕ) (ns : List (List ℕ)) (t : List ℕ) (c : ℕ) (inv : Nodes s at ns t c) where
   turn : (n u : List ℕ) → u ≡ put t (at + 32 * c) n → take (suc c) ns ≡ take c ns ++ (n ∷ []) → length n ≡ 32 → at + 32 * c + 32 ≤ length s → Nodes s at ns u (c + 1)
   turn n u p e l h =
@@ -95,13 +103,9 @@ module _ (s : List ℕ) (at : ℕ) (ns : List (List ℕ)) (t : List ℕ) (c : �
             ∙ put-then s at (at + 32 * c) done n (omega (arith, inv .wide)) (omega arith) ∙ ap (put s at) (sym one-more);
       }
 
-  -- a row of a table: it is there, for it has 32 bytes
+  -- a row of a table
   pub table-turn : (u : List ℕ) → u ≡ put t (at + 32 * c) (getD ns c []) → length (getD ns c []) ≡ 32 → at + 32 * c + 32 ≤ length s → Nodes s at ns u (c + 1)
-  table-turn u p l h = turn (getD ns c []) u p (take-suc ns c [] (there (decLe (length ns) c))) l h
-    where
-      there : Dec (length ns ≤ c) → c < length ns
-      there (yes p) = absurd (omega (arith, ap length (List·getD-eq-default ns [] {n = c} p)))
-      there (no p) = lt-of-not-le p
+  table-turn u p l h = turn (getD ns c []) u p (take-suc ns c [] (row-there ns c l)) l h
 
 -- the node of a page at a slot
 pub page-turn : (s : List ℕ) (at : ℕ) (page ss t : List ℕ) (c i : ℕ) → Nodes s at (map (nodeAt page) ss) t c → i ≡ getD ss c 128 → c < length ss → at + 32 * c + 32 ≤ length s

@@ -2,5 +2,7 @@ pub mod Bytes
 pub mod CallLaws
 pub mod WriterLaws
 pub mod PageUpdates
+pub mod Runs
+pub mod RunExamples
 pub mod Examples
 pub mod Packing

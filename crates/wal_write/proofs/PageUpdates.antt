@@ -2,11 +2,13 @@
 use mathlib.Core.Path.{_≡_, refl, sym, ap, ap₂, _∙_, subst₂}
 use mathlib.Core.Bool.{Bool, true, false, true≢false}
 use mathlib.Core.List.{List, [], _∷_, _++_, map}
-use Prim.Native.Nat.{ℕ, zero, suc, _+_, _-_, _*_, _^_, _<_}
+use Prim.Native.Nat.{ℕ, zero, suc, _+_, _-_, _*_, _≤_, _<_}
+use native.Mathlib.Nat.{lt-of-not-le}
+use native.Mathlib.Decide.{decLe}
 use native.Mathlib.Omega.{arith}
 use lib.Dec.{eqb}
 use lib.ListN.{length, getD, take, replicate, length-map}
-use lib.Seq.{take-at}
+use lib.Seq.{take-at, getD-take, length-take-le}
 use borrow.Author.Tests.{eq-eqb, eqb-true}
 use Rattle.answers.specs.Answers.{Answer, given, accepted}
 use Rattle.blocks.specs.Blocks.{block}
@@ -15,10 +17,11 @@ use Rattle.page_diff.specs.Diff.{slots, countOf, reserved}
 use Rattle.page_diff.specs.Pack.{nodeAt, tableOf}
 use Rattle.wal.specs.Log.{Entry, update, recordOf, updateSize}
 use Rattle.wal.specs.Writer.{updateAnswer, recordLog, recordWriter}
-use Rattle.wal.specs.Run.{Handed, Run, with-update}
+use Rattle.wal.specs.Run.{Wide, Rows, Handed, Run, with-update}
 use Rattle.wal.specs.declared.Writer.{Writer}
 use Rattle.wal.specs.declared.Writer.the-variants.{Fresh, Open, Finished}
 use Rattle.wal_write.specs.Calls.{updateWriter, updateLog, pageUpdateAnswer, pageUpdate, pageUpdateWriter, pageUpdateLog}
+use Rattle.wal_write.proofs.Bytes.{row-there}
 use Rattle.wal_write.proofs.CallLaws.{tested, update-tests, page-tests}
 
 -- ---- `write_page_update` of a whole page is `write_update` of the packed table
@@ -56,13 +59,30 @@ run-sized log₀ sync w log es id ws ns elided b n a run h long e ok =
     subst₂ (λ (k : ℕ) (x : Answer (Unit {0})). accepted x ≡ true → Run log₀ sync (recordWriter x w (updateSize k)) (recordLog x log w (recordOf (update id ws ns elided b))) (es ++ (update id ws ns elided b ∷ [])))
     long (ap (updateAnswer log w ws) long ∙ sym e) (with-update w log es id ws ns elided b run h) ok
 
--- ---- by one lent a table
-pub run-update : (log₀ : List ℕ) (sync : ℕ) (w : Writer) (log : List ℕ) (es : List Entry) (id ws : List ℕ) (nodes : List (List ℕ)) (held : ℕ) (elided : List ℕ) (b : ℕ)
-    → Run log₀ sync w log es → Handed id ws (take held nodes) elided b → accepted (updateAnswer log w ws held) ≡ true
-    → Run log₀ sync (updateWriter log w ws held) (updateLog log w id ws nodes held elided b) (es ++ (update id ws (take held nodes) elided b ∷ []))
-run-update log₀ sync w log es id ws nodes held elided b run h ok =
-    let tests = accepted-tests log w (eqb held (countOf ws)) (reserved ws) (updateSize held) (ap accepted (sym (update-tests log w ws held)) ∙ ok) in
-    run-sized log₀ sync w log es id ws (take held nodes) elided b held (updateAnswer log w ws held) run h (h .counted ∙ sym (eqb-true held (countOf ws) (tests .0))) refl ok
+-- ---- by one lent a table: as many nodes as it takes are there, whatever stands past them
+taken-length : (ns : List (List ℕ)) (n : ℕ) → Rows ns n → length (take n ns) ≡ n
+taken-length ns n rows = go (decLe n (length ns))
+  where
+    go : Dec (n ≤ length ns) → length (take n ns) ≡ n
+    go (yes p) = length-take-le n ns p
+    go (no p) = absurd (omega (arith, row-there ns (length ns) (rows (length ns) (lt-of-not-le p))))
+
+module _ (id ws : List ℕ) (nodes : List (List ℕ)) (held : ℕ) (elided : List ℕ) (b : ℕ) (wide : Wide id ws elided b) (rows : Rows nodes held) where
+  pub table-handed : held ≡ countOf ws → reserved ws ≡ false → Handed id ws (take held nodes) elided b
+  table-handed counted plain =
+      let long : length (take held nodes) ≡ held = taken-length nodes held rows in
+      record {
+        wide = wide;
+        plain = plain;
+        counted = long ∙ counted;
+        rows = λ i h. let small : i < held = omega arith in ap length (getD-take held nodes i [] small) ∙ rows i small;
+      }
+
+  pub run-update : (log₀ : List ℕ) (sync : ℕ) (w : Writer) (log : List ℕ) (es : List Entry) → Run log₀ sync w log es → accepted (updateAnswer log w ws held) ≡ true
+      → Run log₀ sync (updateWriter log w ws held) (updateLog log w id ws nodes held elided b) (es ++ (update id ws (take held nodes) elided b ∷ []))
+  run-update log₀ sync w log es run ok =
+      let tests = accepted-tests log w (eqb held (countOf ws)) (reserved ws) (updateSize held) (ap accepted (sym (update-tests log w ws held)) ∙ ok) in
+      run-sized log₀ sync w log es id ws (take held nodes) elided b held (updateAnswer log w ws held) run (table-handed (eqb-true held (countOf ws) (tests .0)) (tests .1)) (taken-length nodes held rows) refl ok
 
 -- ---- by one lent a page: its nodes are nodes
 page-rows : (page ss : List ℕ) (i : ℕ) → i < length (map (nodeAt page) ss) → length (getD (map (nodeAt page) ss) i []) ≡ 32
@@ -70,19 +90,13 @@ page-rows page [] i h = absurd (omega arith)
 page-rows page (s ∷ ss) zero h = block-length 32 page (32 * s)
 page-rows page (s ∷ ss) (suc i) h = page-rows page ss i (omega arith)
 
--- where the id and the words have their widths
-module _ (id ws page : List ℕ) (b : ℕ) (id-long : length id ≡ 32) (two-words : length ws ≡ 2) (low-word : getD ws 0 0 < 2 ^ 64) (high-word : getD ws 1 0 < 2 ^ 64) (bucket : b < 2 ^ 64) where
+module _ (id ws page : List ℕ) (b : ℕ) (wide : Wide id ws (block 8 page 4056) b) where
   pub page-handed : reserved ws ≡ false → Handed id ws (map (nodeAt page) (slots ws)) (block 8 page 4056) b
   page-handed plain = record {
-    id-long = id-long;
-    two-words = two-words;
-    low-word = low-word;
-    high-word = high-word;
+    wide = wide;
     plain = plain;
     counted = length-map (slots ws) (nodeAt page);
     rows = page-rows page (slots ws);
-    elided-long = block-length 8 page 4056;
-    bucket = bucket;
   }
 
   pub run-page : (log₀ : List ℕ) (sync : ℕ) (w : Writer) (log : List ℕ) (es : List Entry) → Run log₀ sync w log es → accepted (pageUpdateAnswer log w ws page) ≡ true

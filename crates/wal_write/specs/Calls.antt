@@ -1,16 +1,21 @@
--- 01, 'Writer': the state and the log after each call that writes a record, and the call that is lent a page. Assumes nothing.
-use mathlib.Core.Bool.{Bool, cond}
+-- 01, 'Writer': the state and the log after each call that writes a record, and the call that is lent a page; what each call promises.
+-- Assumes nothing.
+use mathlib.Core.Path.{_≡_}
+use mathlib.Core.Bool.{Bool, true, cond}
 use mathlib.Core.List.{List, map}
-use Prim.Native.Nat.{ℕ, _+_, _*_, _/_}
+use Prim.Native.Nat.{ℕ, _+_, _*_, _/_, _^_, _<_}
 use lib.Dec.{leb, eqb}
 use lib.ListN.{length, take}
-use Rattle.answers.specs.Answers.{Answer, given, refused, accepted}
+use Rattle.answers.specs.Answers.{Answer, given, refused, accepted, outcomeSaid, numberSaid}
 use Rattle.blocks.specs.Blocks.{block}
 use Rattle.page_diff.specs.Diff.{slots, countOf, reserved}
 use Rattle.page_diff.specs.Pack.{nodeAt, tableOf}
 use Rattle.wal.specs.Log.{Entry, flat, clear, update, recordOf, markSize, clearSize, updateSize}
-use Rattle.wal.specs.Writer.{position, ifOpen, ifRoom, clearAnswer, updateAnswer, recordLog, recordWriter}
+use Rattle.wal.specs.Writer.{position, ifOpen, ifRoom, beginAnswer, beginWriter, beginLog, clearAnswer, updateAnswer, recordLog, recordWriter, finishAnswer, finishWriter, finishLog}
+use Rattle.wal.specs.Run.{Wide, Rows}
 use Rattle.wal.specs.declared.Writer.{Writer}
+use Rattle.wal_write.specs.declared.Written.{Written}
+use Rattle.wal_write.specs.declared.FinishedAnswer.{FinishedAnswer}
 
 -- the test of `ifRoom`, of a log's length alone: "exactly when position + size + 1 is at most capacity"
 abbrev pub roomIn : ℕ → Writer → ℕ → Bool
@@ -58,3 +63,30 @@ packIntoAnswer ws page nodes =
 -- the packed table, node after node; a refusal leaves the memory
 abbrev pub packedInto : List ℕ → List ℕ → List ℕ → List ℕ
 packedInto ws page nodes = cond (accepted (packIntoAnswer ws page nodes)) (flat (tableOf page (slots ws))) nodes
+
+-- ---- what each call promises, of the log lent, the state, what else it is given, its answer r and the log afterwards: the answer, the state
+-- and the log by the definitions above, and then the widths that its types give
+abbrev pub Begins : List ℕ → Writer → ℕ → Written → List ℕ → Type 0
+Begins log w sync r out =
+    (outcomeSaid (r .outcome) ≡ beginAnswer log) × ((r .writer ≡ beginWriter log w) × (out ≡ beginLog log sync)) × (sync < 2 ^ 32)
+
+abbrev pub Clears : List ℕ → Writer → ℕ → Written → List ℕ → Type 0
+Clears log w b r out =
+    (outcomeSaid (r .outcome) ≡ clearAnswer log w) × ((r .writer ≡ clearWriter log w) × (out ≡ clearLog log w b)) × (b < 2 ^ 64)
+
+-- the nodes that an accepted update takes out of a table are nodes
+abbrev pub Updates : List ℕ → Writer → List ℕ → List ℕ → List (List ℕ) → ℕ → List ℕ → ℕ → Written → List ℕ → Type 0
+Updates log w id ws nodes held elided b r out =
+    (outcomeSaid (r .outcome) ≡ updateAnswer log w ws held)
+    × ((r .writer ≡ updateWriter log w ws held) × (out ≡ updateLog log w id ws nodes held elided b))
+    × Wide id ws elided b
+    × (accepted (updateAnswer log w ws held) ≡ true → Rows nodes held)
+
+abbrev pub UpdatesPage : List ℕ → Writer → List ℕ → List ℕ → List ℕ → ℕ → Written → List ℕ → Type 0
+UpdatesPage log w id ws page b r out =
+    (outcomeSaid (r .outcome) ≡ pageUpdateAnswer log w ws page)
+    × ((r .writer ≡ pageUpdateWriter log w ws page) × (out ≡ pageUpdateLog log w id ws page b))
+    × Wide id ws (block 8 page 4056) b
+
+abbrev pub Finishes : List ℕ → Writer → FinishedAnswer → List ℕ → Type 0
+Finishes log w r out = (numberSaid (r .answer) ≡ finishAnswer log w) × ((r .writer ≡ finishWriter log w) × (out ≡ finishLog log w))

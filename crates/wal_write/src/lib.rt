@@ -13,8 +13,8 @@ ghost use Rattle.blocks.specs.Blocks.{bytesOf, put};
 ghost use Rattle.page_diff.specs.Diff.{slots, countOf, reserved, bytesOfWords};
 ghost use Rattle.page_diff.specs.Pack.{nodeAt};
 ghost use Rattle.wal.specs.Log.{clear, mark, flat, recordOf, clearSize};
-ghost use Rattle.wal.specs.Writer.{beginAnswer, beginWriter, beginLog, clearAnswer, updateAnswer, finishAnswer, finishWriter, finishLog};
-ghost use Rattle.wal_write.specs.Calls.{roomIn, clearWriter, clearLog, updateWriter, updateLog, pageUpdateAnswer, pageUpdateWriter, pageUpdateLog, packIntoAnswer, packedInto};
+ghost use Rattle.wal.specs.Run.{Rows};
+ghost use Rattle.wal_write.specs.Calls.{roomIn, Begins, Clears, Updates, UpdatesPage, Finishes, packIntoAnswer, packedInto};
 use answers::Number;
 use answers::Outcome;
 use answers::Refusal;
@@ -83,7 +83,7 @@ fn kept(w: Writer, why: Refusal) -> Written
 
 // Starts a log, in any state: the start record at the front of a slice that holds a page, else 13.
 pub fn begin(log: &mut [u8], w: Writer, sync: u32) -> Written
-    ensures { λ r. ⌜ (outcomeSaid (r .outcome) ≡ beginAnswer (now (log .entry))) × ((r .writer ≡ beginWriter (now (log .entry)) w) × (now (log .exit) ≡ beginLog (now (log .entry)) sync)) ⌝ }
+    ensures { λ r. ⌜ Begins (now (log .entry)) w sync r (now (log .exit)) ⌝ }
 {
     if log.len() < wal::PAGE_SIZE {
         return kept(w, Refusal::NoRoom);
@@ -107,7 +107,7 @@ fn put_clear(log: &mut [u8], at: usize, bucket: u64)
 
 // Writes a clear of any bucket number: 12, 13.
 pub fn write_clear(log: &mut [u8], w: Writer, bucket: u64) -> Written
-    ensures { λ r. ⌜ (outcomeSaid (r .outcome) ≡ clearAnswer (now (log .entry)) w) × ((r .writer ≡ clearWriter (now (log .entry)) w) × (now (log .exit) ≡ clearLog (now (log .entry)) w bucket)) ⌝ }
+    ensures { λ r. ⌜ Clears (now (log .entry)) w bucket r (now (log .exit)) ⌝ }
 {
     let Writer::Open(at) = w else {
         return kept(w, Refusal::WriterNotOpen);
@@ -135,7 +135,7 @@ fn put_head(log: &mut [u8], at: usize, id: [u8; 32], d: Diff)
 // The first `held` nodes of a table.
 fn put_nodes(log: &mut [u8], at: usize, nodes: &[[u8; 32]; 126], held: usize)
     requires { ⌜ (held ≤ 126) × (at + 32 * held ≤ length (now log)) ⌝ }
-    ensures { λ _. ⌜ (now (log .exit) ≡ put (now (log .entry)) at (flat (take held (now (nodes .entry))))) × (length (flat (take held (now (nodes .entry)))) ≡ 32 * held) ⌝ }
+    ensures { λ _. ⌜ (now (log .exit) ≡ put (now (log .entry)) at (flat (take held (now (nodes .entry))))) × (length (flat (take held (now (nodes .entry)))) ≡ 32 * held) × Rows (now (nodes .entry)) held ⌝ }
 {
     let mut c = 0;
     while c < held {
@@ -186,7 +186,7 @@ pub fn write_update(
     elided: [u8; 8],
     bucket: u64,
 ) -> Written
-    ensures { λ r. ⌜ (outcomeSaid (r .outcome) ≡ updateAnswer (now (log .entry)) w (d .words) held) × ((r .writer ≡ updateWriter (now (log .entry)) w (d .words) held) × (now (log .exit) ≡ updateLog (now (log .entry)) w id (d .words) (now (nodes .entry)) held elided bucket)) ⌝ }
+    ensures { λ r. ⌜ Updates (now (log .entry)) w id (d .words) (now (nodes .entry)) held elided bucket r (now (log .exit)) ⌝ }
 {
     let Writer::Open(at) = w else {
         return kept(w, Refusal::WriterNotOpen);
@@ -220,7 +220,7 @@ pub fn write_page_update(
     page: &[u8],
     bucket: u64,
 ) -> Written
-    ensures { λ r. ⌜ (outcomeSaid (r .outcome) ≡ pageUpdateAnswer (now (log .entry)) w (d .words) (now (page .entry))) × ((r .writer ≡ pageUpdateWriter (now (log .entry)) w (d .words) (now (page .entry))) × (now (log .exit) ≡ pageUpdateLog (now (log .entry)) w id (d .words) (now (page .entry)) bucket)) ⌝ }
+    ensures { λ r. ⌜ UpdatesPage (now (log .entry)) w id (d .words) (now (page .entry)) bucket r (now (log .exit)) ⌝ }
 {
     let Writer::Open(at) = w else {
         return kept(w, Refusal::WriterNotOpen);
@@ -286,7 +286,7 @@ pub fn pack_into(nodes: &mut [u8], d: Diff, page: &[u8]) -> Number
 // Ends the log, with zeros up to the next page, and answers its length: 12, 13. The slice past that
 // length stays as it is.
 pub fn finish(log: &mut [u8], w: Writer) -> FinishedAnswer
-    ensures { λ r. ⌜ (numberSaid (r .answer) ≡ finishAnswer (now (log .entry)) w) × ((r .writer ≡ finishWriter (now (log .entry)) w) × (now (log .exit) ≡ finishLog (now (log .entry)) w)) ⌝ }
+    ensures { λ r. ⌜ Finishes (now (log .entry)) w r (now (log .exit)) ⌝ }
 {
     let Writer::Open(at) = w else {
         return FinishedAnswer {

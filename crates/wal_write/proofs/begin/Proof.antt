@@ -20,9 +20,11 @@ kept-requires c κs = search needs
 
 returns : tie.Need-returns
 returns c =
-    let args = c .before .before .before .args in
+    let start = c .before .before .before in
+    let args = start .args in
     let log : List ℕ = args .log .now in
-    refused-leaves (beginAnswer log) (args .w) (Open 5) log 0 (startRecord (args .sync)) 13 (outcomeSaid (c .kept .result .outcome)) (c .kept .result .writer) (begin-short log (c .before .if1 .taken)) (c .kept .ensures .0) (c .kept .ensures .1)
+    let left = refused-leaves (beginAnswer log) (args .w) (Open 5) log 0 (startRecord (args .sync)) 13 (outcomeSaid (c .kept .result .outcome)) (c .kept .result .writer) (begin-short log (c .before .if1 .taken)) (c .kept .ensures .0) (c .kept .ensures .1) in
+    (left .0, left .1, start .fits .sync .fits)
 
 slice-write-log : tie.Need-slice-write-log
 slice-write-log c = search needs
@@ -37,11 +39,13 @@ returns-2 : tie.Need-returns-2
 returns-2 c =
     let called = c .before .before in
     let past = called .before .before in
-    let args = past .before .before .args in
+    let start = past .before .before in
+    let args = start .args in
     let log : List ℕ = args .log .now in
     let bs : List ℕ = bytesOf 4 (args .sync) in
     let long : length bs ≡ 4 = refl in
-    given-leaves (beginAnswer log) (args .w) (Open 5) log 0 (startRecord (args .sync)) tt (given tt) (Open 5) (called .write-u32 .last .0) (begin-given log (past .if1 .left)) refl refl (called .write-u32 .ensures ∙ put-marked log 0 1 bs (omega arith))
+    let left = given-leaves (beginAnswer log) (args .w) (Open 5) log 0 (startRecord (args .sync)) tt (given tt) (Open 5) (called .write-u32 .last .0) (begin-given log (past .if1 .left)) refl refl (called .write-u32 .ensures ∙ put-marked log 0 1 bs (omega arith)) in
+    (left .0, left .1, start .fits .sync .fits)
 
 pub begin-spec : {M : Type 1} → statement M
 begin-spec =

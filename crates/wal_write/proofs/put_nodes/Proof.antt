@@ -1,22 +1,24 @@
 -- At the head of the loop the first `c` nodes are put; it ends when `held` are. Assumes nothing.
 use Prim.Native.Nat.{ℕ, _-_, _*_, _≤_}
-use mathlib.Core.Path.{_≡_, sym, ap, _∙_}
+use mathlib.Core.Path.{_≡_, sym, ap, _∙_, subst}
 use native.Mathlib.Omega.{arith}
 use lib.ListN.{length, take}
+use borrow.Author.Count.{below-more}
 use Rattle.blocks.specs.Blocks.{put}
 use Rattle.wal.specs.Log.{flat}
+use Rattle.wal.specs.Run.{Rows}
 use Rattle.wal_write.proofs.Bytes.{Nodes, nodes-start, nodes-length, table-turn}
 use Rattle.wal_write.proofs.put_nodes.Statement.{statement}
 use Rattle.wal_write.proofs.put_nodes.Tie as tie
 
 abbrev Inv-loop : tie.InvT-loop
-Inv-loop log₀ at nodes held c₀ log c = (c ≤ held) × Nodes log₀ at nodes log c
+Inv-loop log₀ at nodes held c₀ log c = (c ≤ held) × Nodes log₀ at nodes log c × Rows nodes c
 
 abbrev μ-loop : tie.MeasureT-loop
 μ-loop log₀ at nodes held c₀ log c = held - c
 
 loop-holds : tie.Need-loop-holds Inv-loop μ-loop
-loop-holds c = let start = c .before in let args = start .args in (omega arith, nodes-start (args .log .now) (args .at) (args .nodes .now) (omega (arith, start .pre .1)))
+loop-holds c = let start = c .before in let args = start .args in (omega arith, nodes-start (args .log .now) (args .at) (args .nodes .now) (omega (arith, start .pre .1)), λ i h. absurd (omega arith))
 
 mul-n : tie.Need-mul-n Inv-loop μ-loop
 mul-n c = omega arith
@@ -48,6 +50,7 @@ loop-again c =
     let args = start .args in (
       omega (arith, turn .loop-test .taken),
       table-turn (args .log .now) (args .at) (args .nodes .now) (at-loop .loop .log) (at-loop .loop .c) (at-loop .loop .inv .1) (called .put-32 .last .0) (called .put-32 .ensures .0) (called .put-32 .ensures .1) (omega (arith, turn .loop-test .taken, start .pre .1)),
+      below-more _ _ (at-loop .loop .inv .2) (called .put-32 .ensures .1),
     )
 
 same-length : tie.Need-same-length Inv-loop μ-loop
@@ -64,6 +67,7 @@ returns c =
     let all : at-loop .loop .c ≡ args .held = omega arith in (
       inv .there ∙ ap (λ (k : ℕ). put (args .log .now) (args .at) (flat (take k (args .nodes .now)))) all,
       ap (λ (k : ℕ). length (flat (take k (args .nodes .now)))) (sym all) ∙ inv .wide ∙ ap (λ (k : ℕ). 32 * k) all,
+      subst (Rows (args .nodes .now)) all (at-loop .loop .inv .2),
     )
 
 pub put-nodes-spec : {M : Type 1} → statement M

@@ -44,10 +44,12 @@ kept-requires c κs = search needs
 
 returns : tie.Need-returns
 returns c =
-    let args = c .before .before .before .args in
+    let start = c .before .before .before in
+    let args = start .args in
     let log : List ℕ = args .log .now in
-    record-refused (clearAnswer log (args .w)) log (args .w) 9 (recordOf (clear (args .bucket))) 12 (outcomeSaid (c .kept .result .outcome)) (c .kept .result .writer)
-    (clear-tests log (args .w) ∙ not-open log (args .w) true false 9 (given tt) (c .before .match .keys2)) (c .kept .ensures .0) (c .kept .ensures .1)
+    let left = record-refused (clearAnswer log (args .w)) log (args .w) 9 (recordOf (clear (args .bucket))) 12 (outcomeSaid (c .kept .result .outcome)) (c .kept .result .writer)
+    (clear-tests log (args .w) ∙ not-open log (args .w) true false 9 (given tt) (c .before .match .keys2)) (c .kept .ensures .0) (c .kept .ensures .1) in
+    (left .0, left .1, start .fits .bucket .fits)
 
 room-at-requires : tie.Need-room-at-requires
 room-at-requires c κs = search needs
@@ -58,9 +60,11 @@ kept-requires-2 c κs = search needs
 returns-2 : tie.Need-returns-2
 returns-2 c =
     let k = c .before .before in
-    let args = k .before .before .before .before .before .args in
-    record-refused (clearAnswer (log k) (w k)) (log k) (w k) 9 (recordOf (clear (args .bucket))) 13 (outcomeSaid (c .kept2 .result .outcome)) (c .kept2 .result .writer)
-    (clear-tests (log k) (w k) ∙ no-room (log k) (w k) true false 9 (given tt) (at k) (opened k) refl refl (full k (not-true (k .room-at .result) (c .before .if1 .taken)))) (c .kept2 .ensures .0) (c .kept2 .ensures .1 ∙ sym (opened k))
+    let start = k .before .before .before .before .before in
+    let args = start .args in
+    let left = record-refused (clearAnswer (log k) (w k)) (log k) (w k) 9 (recordOf (clear (args .bucket))) 13 (outcomeSaid (c .kept2 .result .outcome)) (c .kept2 .result .writer)
+    (clear-tests (log k) (w k) ∙ no-room (log k) (w k) true false 9 (given tt) (at k) (opened k) refl refl (full k (not-true (k .room-at .result) (c .before .if1 .taken)))) (c .kept2 .ensures .0) (c .kept2 .ensures .1 ∙ sym (opened k)) in
+    (left .0, left .1, start .fits .bucket .fits)
 
 put-clear-requires : tie.Need-put-clear-requires
 put-clear-requires c κs = let k = c .before .before in omega (arith, leb-true (at k + 9 + 1) (capacity (log k)) (roomy k (not-false (k .room-at .result) (c .before .if1 .left))))
@@ -76,9 +80,11 @@ returns-3 c =
     let called = c .before .before in
     let past = called .before .before in
     let k = past .before in
-    let args = k .before .before .before .before .before .args in
-    record-given (clearAnswer (log k) (w k)) (log k) (w k) 9 (recordOf (clear (args .bucket))) (at k) (Open (at k + 9)) (called .put-clear .last .0) (opened k)
-    (clear-tests (log k) (w k) ∙ taken (log k) (w k) true false 9 (given tt) (at k) (opened k) refl refl (roomy k (not-false (k .room-at .result) (past .if1 .left)))) refl (called .put-clear .ensures)
+    let start = k .before .before .before .before .before in
+    let args = start .args in
+    let left = record-given (clearAnswer (log k) (w k)) (log k) (w k) 9 (recordOf (clear (args .bucket))) (at k) (Open (at k + 9)) (called .put-clear .last .0) (opened k)
+    (clear-tests (log k) (w k) ∙ taken (log k) (w k) true false 9 (given tt) (at k) (opened k) refl refl (roomy k (not-false (k .room-at .result) (past .if1 .left)))) refl (called .put-clear .ensures) in
+    (left .0, left .1, start .fits .bucket .fits)
 
 pub write-clear-spec : {M : Type 1} → statement M
 write-clear-spec =

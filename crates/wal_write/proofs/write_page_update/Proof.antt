@@ -5,10 +5,12 @@ use mathlib.Core.Bool.{true, false}
 use mathlib.Core.List.{List, _++_, map}
 use native.Mathlib.Omega.{arith}
 use lib.Dec.{leb, eqb}
-use lib.ListN.{length}
+use lib.ListN.{length, getD}
+use mir.Syntax.{w64}
+use mir.Val.{Fits}
 use borrow.Author.Needs.{needs}
 use borrow.Author.Tests.{leb-true, eq-eqb, ne-eqb, not-true, not-false}
-use Rattle.answers.specs.Answers.{Answer, given, outcomeSaid}
+use Rattle.answers.specs.Answers.{Answer, given, refused, outcomeSaid}
 use Rattle.blocks.specs.Blocks.{bytesOf, block, put}
 use Rattle.blocks.proofs.Laws.{block-length}
 use Rattle.page_diff.specs.Diff.{slots, countOf, reserved}
@@ -16,9 +18,11 @@ use Rattle.page_diff.specs.Pack.{nodeAt}
 use Rattle.page_diff.proofs.Walk.{plain-count}
 use Rattle.wal.specs.Log.{flat, recordOf}
 use Rattle.wal.specs.Writer.{capacity}
+use Rattle.wal.specs.Run.{Wide}
 use Rattle.wal.specs.declared.Writer.{Writer}
 use Rattle.wal.specs.declared.Writer.the-variants.{Open}
-use Rattle.wal_write.specs.Calls.{pageUpdateAnswer, pageUpdate}
+use Rattle.wal_write.specs.Calls.{pageUpdateAnswer, pageUpdate, UpdatesPage}
+use Rattle.wal_write.specs.declared.Written.{Written}
 use Rattle.wal_write.proofs.Bytes.{put-update, page-nodes-length}
 use Rattle.wal_write.proofs.CallLaws.{page-tests, not-open, unfit, reserved-bit, no-room, taken, record-refused, record-given}
 use Rattle.wal_write.proofs.write_page_update.Statement.{statement}
@@ -43,6 +47,26 @@ module _ (c : tie.Start) where
 
   abbrev bytes : List ℕ
   bytes = recordOf (pageUpdate (c .args .id) ws page (c .args .bucket))
+
+  -- the widths that the types give
+  wide : Wide (c .args .id) ws (block 8 page 4056) (c .args .bucket)
+  wide =
+      let low : Fits w64 (getD ws 0 0) = search needs in
+      let high : Fits w64 (getD ws 1 0) = search needs in
+      record {
+        id-long = search needs;
+        two-words = search needs;
+        low-word = low .fits;
+        high-word = high .fits;
+        elided-long = block-length 8 page 4056;
+        bucket = c .fits .bucket .fits;
+      }
+
+  -- a refused call
+  refused-call : (n : ℕ) (r : Written) → answer ≡ refused n → outcomeSaid (r .outcome) ≡ refused n → r .writer ≡ w → UpdatesPage log w (c .args .id) ws page (c .args .bucket) r log
+  refused-call n r e k s =
+      let left = record-refused answer log w (65 + 32 * countOf ws) bytes n (outcomeSaid (r .outcome)) (r .writer) e k s in
+      (left .0, left .1, wide)
 
 -- an open writer
 module _ (c : tie.After-known-told) where
@@ -99,7 +123,7 @@ kept-requires c κs = search needs
 returns : tie.Need-returns
 returns c =
     let s = c .before .before .before .before in
-    record-refused (answer s) (log s) (w s) (65 + 32 * countOf (ws s)) (bytes s) 12 (outcomeSaid (c .kept .result .outcome)) (c .kept .result .writer)
+    refused-call s 12 (c .kept .result)
     (page-tests (log s) (w s) (ws s) (page s) ∙ not-open (log s) (w s) (eqb (length (page s)) 4096) (reserved (ws s)) (65 + 32 * countOf (ws s)) (given tt) (c .before .match .keys2)) (c .kept .ensures .0) (c .kept .ensures .1)
 
 kept-requires-2 : tie.Need-kept-requires-2
@@ -109,7 +133,7 @@ returns-2 : tie.Need-returns-2
 returns-2 c =
     let k = c .before .before in
     let s = start k in
-    record-refused (answer s) (log s) (w s) (65 + 32 * countOf (ws s)) (bytes s) 2 (outcomeSaid (c .kept2 .result .outcome)) (c .kept2 .result .writer)
+    refused-call s 2 (c .kept2 .result)
     (page-tests (log s) (w s) (ws s) (page s)
     ∙ unfit (log s) (w s) (eqb (length (page s)) 4096) (reserved (ws s)) (65 + 32 * countOf (ws s)) (given tt) (at k) (opened k) (ne-eqb (length (page s)) 4096 (c .before .if1 .taken))) (c .kept2 .ensures .0) (c .kept2 .ensures .1 ∙ sym (opened k))
 
@@ -125,7 +149,7 @@ returns-3 c =
     let past = asked .before in
     let k = past .before in
     let s = start k in
-    record-refused (answer s) (log s) (w s) (65 + 32 * countOf (ws s)) (bytes s) 4 (outcomeSaid (c .kept3 .result .outcome)) (c .kept3 .result .writer)
+    refused-call s 4 (c .kept3 .result)
     (page-tests (log s) (w s) (ws s) (page s)
     ∙ reserved-bit (log s) (w s) (eqb (length (page s)) 4096) (reserved (ws s)) (65 + 32 * countOf (ws s)) (given tt) (at k) (opened k) (fit past) (sym (asked .is-reserved .ensures) ∙ c .before .if2 .taken)) (c .kept3 .ensures .0) (c .kept3 .ensures .1 ∙ sym (opened k))
 
@@ -150,7 +174,7 @@ returns-4 c =
     let past = asked .before .before in
     let k = open-at past in
     let s = start k in
-    record-refused (answer s) (log s) (w s) (65 + 32 * countOf (ws s)) (bytes s) 13 (outcomeSaid (c .kept4 .result .outcome)) (c .kept4 .result .writer)
+    refused-call s 13 (c .kept4 .result)
     (page-tests (log s) (w s) (ws s) (page s)
     ∙ no-room (log s) (w s) (eqb (length (page s)) 4096) (reserved (ws s)) (65 + 32 * countOf (ws s)) (given tt) (at k) (opened k) (fit (past .before .before)) (plain past) (sym (room asked) ∙ not-true (asked .room-at .result) (c .before .if3 .taken))) (c .kept4 .ensures .0) (c .kept4 .ensures .1 ∙ sym (opened k))
 
@@ -200,7 +224,7 @@ returns-5 c =
     let n : ℕ = countOf (ws s) in
     let ns : List (List ℕ) = map (nodeAt (page s)) (slots (ws s)) in
     let el : List ℕ = block 8 (page s) 4056 in
-    record-given (answer s) (log s) (w s) (65 + 32 * n) (bytes s) (at k) (Open (at k + (65 + 32 * past .before .before .count .result))) (tail .put-tail .last .0) (opened k)
+    let left = record-given (answer s) (log s) (w s) (65 + 32 * n) (bytes s) (at k) (Open (at k + (65 + 32 * past .before .before .count .result))) (tail .put-tail .last .0) (opened k)
     (page-tests (log s) (w s) (ws s) (page s)
     ∙ taken (log s) (w s) (eqb (length (page s)) 4096) (reserved (ws s)) (65 + 32 * n) (given tt) (at k) (opened k) (fit (past .before .before .before .before .before)) (plain (past .before .before .before)) (roomy past))
     (ap (λ (m : ℕ). Open (at k + (65 + 32 * m))) (counted past))
@@ -208,7 +232,8 @@ returns-5 c =
     ∙ ap (λ (m : ℕ). put (nodes .put-page-nodes .last .0) (at k + (65 + 32 * m - 16)) (read .block-8 .result ++ bytesOf 8 (s .args .bucket))) (counted past)
     ∙ ap (λ (e : List ℕ). put (nodes .put-page-nodes .last .0) (at k + (65 + 32 * n - 16)) (e ++ bytesOf 8 (s .args .bucket))) (read .block-8 .ensures)
     ∙ ap (λ (l : List ℕ). put l (at k + (65 + 32 * n - 16)) (el ++ bytesOf 8 (s .args .bucket))) (nodes .put-page-nodes .ensures ∙ ap (λ (l : List ℕ). put l (at k + 49) (flat ns)) (head .put-head .ensures .0))
-    ∙ put-update (log s) (at k) (s .args .id) (ws s) ns el (s .args .bucket) n (head .put-head .ensures .1) (page-nodes-length (page s) (slots (ws s))) (block-length 8 (page s) 4056) (fits past))
+    ∙ put-update (log s) (at k) (s .args .id) (ws s) ns el (s .args .bucket) n (head .put-head .ensures .1) (page-nodes-length (page s) (slots (ws s))) (block-length 8 (page s) 4056) (fits past)) in
+    (left .0, left .1, wide s)
 
 pub write-page-update-spec : {M : Type 1} → statement M
 write-page-update-spec =

@@ -1,21 +1,26 @@
 -- Each test answers as the definition does; with all passed the record is put part by part. Assumes nothing.
 use Prim.Native.Nat.{ℕ, _+_, _-_, _*_, _≤_}
 use mathlib.Core.Path.{_≡_, refl, sym, ap, _∙_}
-use mathlib.Core.Bool.{true, false}
+use mathlib.Core.Bool.{true, false, true≢false}
 use mathlib.Core.List.{List, _++_}
 use native.Mathlib.Omega.{arith}
 use lib.Dec.{leb, eqb}
-use lib.ListN.{length, take}
+use lib.ListN.{length, getD, take}
+use mir.Syntax.{w64}
+use mir.Val.{Fits}
 use borrow.Author.Needs.{needs}
 use borrow.Author.Tests.{leb-true, eq-eqb, ne-eqb, not-true, not-false}
-use Rattle.answers.specs.Answers.{Answer, given, outcomeSaid}
+use Rattle.answers.specs.Answers.{Answer, given, refused, accepted, outcomeSaid}
 use Rattle.blocks.specs.Blocks.{bytesOf, put}
 use Rattle.page_diff.specs.Diff.{countOf, reserved}
 use Rattle.page_diff.proofs.Walk.{plain-count}
 use Rattle.wal.specs.Log.{update, flat, recordOf}
 use Rattle.wal.specs.Writer.{capacity, updateAnswer}
+use Rattle.wal.specs.Run.{Wide}
 use Rattle.wal.specs.declared.Writer.{Writer}
 use Rattle.wal.specs.declared.Writer.the-variants.{Open}
+use Rattle.wal_write.specs.Calls.{Updates}
+use Rattle.wal_write.specs.declared.Written.{Written}
 use Rattle.wal_write.proofs.Bytes.{put-update}
 use Rattle.wal_write.proofs.CallLaws.{update-tests, not-open, unfit, reserved-bit, no-room, taken, record-refused, record-given}
 use Rattle.wal_write.proofs.write_update.Statement.{statement}
@@ -40,6 +45,26 @@ module _ (c : tie.Start) where
 
   abbrev bytes : List ℕ
   bytes = recordOf (update (c .args .id) ws (take held (c .args .nodes .now)) (c .args .elided) (c .args .bucket))
+
+  -- the widths that the types give
+  wide : Wide (c .args .id) ws (c .args .elided) (c .args .bucket)
+  wide =
+      let low : Fits w64 (getD ws 0 0) = search needs in
+      let high : Fits w64 (getD ws 1 0) = search needs in
+      record {
+        id-long = search needs;
+        two-words = search needs;
+        low-word = low .fits;
+        high-word = high .fits;
+        elided-long = search needs;
+        bucket = c .fits .bucket .fits;
+      }
+
+  -- a refused call
+  refused-call : (n : ℕ) (r : Written) → answer ≡ refused n → outcomeSaid (r .outcome) ≡ refused n → r .writer ≡ w → Updates log w (c .args .id) ws (c .args .nodes .now) held (c .args .elided) (c .args .bucket) r log
+  refused-call n r e k s =
+      let left = record-refused answer log w (65 + 32 * held) bytes n (outcomeSaid (r .outcome)) (r .writer) e k s in
+      (left .0, left .1, wide, λ ok. absurd (true≢false (sym ok ∙ ap accepted e)))
 
 -- an open writer
 module _ (c : tie.After-known-told) where
@@ -91,7 +116,7 @@ kept-requires c κs = search needs
 returns : tie.Need-returns
 returns c =
     let s = c .before .before .before in
-    record-refused (answer s) (log s) (w s) (65 + 32 * held s) (bytes s) 12 (outcomeSaid (c .kept .result .outcome)) (c .kept .result .writer)
+    refused-call s 12 (c .kept .result)
     (update-tests (log s) (w s) (ws s) (held s) ∙ not-open (log s) (w s) (eqb (held s) (countOf (ws s))) (reserved (ws s)) (65 + 32 * held s) (given tt) (c .before .match .keys2)) (c .kept .ensures .0) (c .kept .ensures .1)
 
 count-requires : tie.Need-count-requires
@@ -105,7 +130,7 @@ returns-2 c =
     let asked = c .before .before in
     let k = asked .before in
     let s = start k in
-    record-refused (answer s) (log s) (w s) (65 + 32 * held s) (bytes s) 2 (outcomeSaid (c .kept2 .result .outcome)) (c .kept2 .result .writer)
+    refused-call s 2 (c .kept2 .result)
     (update-tests (log s) (w s) (ws s) (held s)
     ∙ unfit (log s) (w s) (eqb (held s) (countOf (ws s))) (reserved (ws s)) (65 + 32 * held s) (given tt) (at k) (opened k) (ne-eqb (held s) (countOf (ws s)) (λ q. c .before .if1 .taken (asked .count .ensures ∙ sym q)))) (c .kept2 .ensures .0) (c .kept2 .ensures .1 ∙ sym (opened k))
 
@@ -121,7 +146,7 @@ returns-3 c =
     let past = asked .before in
     let k = past .before .before in
     let s = start k in
-    record-refused (answer s) (log s) (w s) (65 + 32 * held s) (bytes s) 4 (outcomeSaid (c .kept3 .result .outcome)) (c .kept3 .result .writer)
+    refused-call s 4 (c .kept3 .result)
     (update-tests (log s) (w s) (ws s) (held s)
     ∙ reserved-bit (log s) (w s) (eqb (held s) (countOf (ws s))) (reserved (ws s)) (65 + 32 * held s) (given tt) (at k) (opened k) (fit past) (sym (asked .is-reserved .ensures) ∙ c .before .if2 .taken)) (c .kept3 .ensures .0) (c .kept3 .ensures .1 ∙ sym (opened k))
 
@@ -143,7 +168,7 @@ returns-4 c =
     let past = asked .before in
     let k = open-at past in
     let s = start k in
-    record-refused (answer s) (log s) (w s) (65 + 32 * held s) (bytes s) 13 (outcomeSaid (c .kept4 .result .outcome)) (c .kept4 .result .writer)
+    refused-call s 13 (c .kept4 .result)
     (update-tests (log s) (w s) (ws s) (held s)
     ∙ no-room (log s) (w s) (eqb (held s) (countOf (ws s))) (reserved (ws s)) (65 + 32 * held s) (given tt) (at k) (opened k) (fit (past .before .before)) (plain past) (sym (asked .room-at .ensures) ∙ not-true (asked .room-at .result) (c .before .if3 .taken))) (c .kept4 .ensures .0) (c .kept4 .ensures .1 ∙ sym (opened k))
 
@@ -187,12 +212,13 @@ returns-5 c =
     let s = start k in
     let ns : List (List ℕ) = take (held s) (s .args .nodes .now) in
     let end : List ℕ = s .args .elided ++ bytesOf 8 (s .args .bucket) in
-    record-given (answer s) (log s) (w s) (65 + 32 * held s) (bytes s) (at k) (Open (at k + (65 + 32 * held s))) (tail .put-tail .last .0) (opened k)
+    let left = record-given (answer s) (log s) (w s) (65 + 32 * held s) (bytes s) (at k) (Open (at k + (65 + 32 * held s))) (tail .put-tail .last .0) (opened k)
     (update-tests (log s) (w s) (ws s) (held s)
     ∙ taken (log s) (w s) (eqb (held s) (countOf (ws s))) (reserved (ws s)) (65 + 32 * held s) (given tt) (at k) (opened k) (fit (past .before .before .before .before)) (plain (past .before .before)) (roomy past)) refl
     (tail .put-tail .ensures .0
     ∙ ap (λ (l : List ℕ). put l (at k + (65 + 32 * held s - 16)) end) (nodes .put-nodes .ensures .0 ∙ ap (λ (l : List ℕ). put l (at k + 49) (flat ns)) (head .put-head .ensures .0))
-    ∙ put-update (log s) (at k) (s .args .id) (ws s) ns (s .args .elided) (s .args .bucket) (held s) (head .put-head .ensures .1) (nodes .put-nodes .ensures .1) (tail .put-tail .ensures .1) (fits past))
+    ∙ put-update (log s) (at k) (s .args .id) (ws s) ns (s .args .elided) (s .args .bucket) (held s) (head .put-head .ensures .1) (nodes .put-nodes .ensures .1) (tail .put-tail .ensures .1) (fits past)) in
+    (left .0, left .1, wide s, λ ok. nodes .put-nodes .ensures .2)
 
 pub write-update-spec : {M : Type 1} → statement M
 write-update-spec =
