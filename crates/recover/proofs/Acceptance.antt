@@ -17,8 +17,7 @@ use Rattle.wal.specs.Run.{Run, logOf}
 use Rattle.wal.specs.declared.Writer.{Writer}
 use Rattle.wal.proofs.RoundTrip.{AllWellFormed, log-length, start-back, entries-back, Made, run-made, finished-log}
 use Rattle.recover.specs.Places.{withHashes, replayed}
-use Rattle.recover.specs.Replay.{Did, nothing, stale, applied, allInside, updatesIn, afterEntries, checkAnswer, afterStart, replayAnswer, replayImage, imageBy, stepsOf, Stopped}
-use Rattle.recover.proofs.Demand3.{stopped-only, stops-do-no-harm}
+use Rattle.recover.specs.Replay.{Did, nothing, stale, applied, allInside, updatesIn, afterEntries, checkAnswer, afterStart, replayAnswer, replayImage, imageBy, stepsOf}
 
 module _ (n sync : ℕ) (es : List Entry) (all : AllWellFormed es) (small : sync < 2 ^ 32) (inside : allInside n es ≡ true) where
   -- the check of its whole log
@@ -70,14 +69,3 @@ stale-leaves n image log sync hashes e = ap (λ (a : Answer Did). imageBy a imag
 
 pub refusal-leaves : (n : ℕ) (image log : List ℕ) (sync : ℕ) (hashes : List ℕ) (k : ℕ) → replayAnswer n image log sync hashes ≡ refused k → replayImage n image log sync hashes ≡ image
 refusal-leaves n image log sync hashes k e = ap (λ (a : Answer Did). imageBy a image (replayed n (stepsOf log hashes) image)) e
-
--- Demand 3 as one statement: a log accepted for a table; an image that stops left of it; the same sync number and hashes
-module _ (n : ℕ) (table log : List ℕ) (sync : ℕ) (hashes : List ℕ) (ok : replayAnswer n table log sync hashes ≡ given applied) where
-  pub stopped-accepted : {image : List ℕ} → Stopped n (stepsOf log hashes) table image → replayAnswer n image log sync hashes ≡ given applied
-  stopped-accepted {image} s = answer-by-length n image table log sync hashes (stopped-only n (stepsOf log hashes) table s .long) ∙ ok
-
-  pub demand-3 : {image : List ℕ} → Stopped n (stepsOf log hashes) table image → replayImage n image log sync hashes ≡ replayImage n table log sync hashes
-  demand-3 {image} s =
-      ap (λ (a : Answer Did). imageBy a image (replayed n (stepsOf log hashes) image)) (stopped-accepted s)
-      ∙ stops-do-no-harm n (stepsOf log hashes) table s
-      ∙ sym (ap (λ (a : Answer Did). imageBy a table (replayed n (stepsOf log hashes) table)) ok)

@@ -12,7 +12,7 @@ use Rattle.blocks.specs.Blocks.{tabulate}
 use Rattle.blocks.proofs.Laws.{tabulate-length, tabulate-getD, tabulate-is}
 use Rattle.wal.specs.Log.{clear}
 use Rattle.recover.specs.Places.{Step, entryNames, names, gives, namedIn, valueAt, replayed, stepped}
-use Rattle.recover.specs.Replay.{OnlyNamed, Stopped, untouched, part-applied, mixed}
+use Rattle.recover.specs.Replay.{OnlyNamed, LastGiven, Mix, Stopped, untouched, part-applied, mixed}
 
 -- ---- the value at one place
 module _ (n : ℕ) (j : ℕ) where
@@ -39,6 +39,37 @@ module _ (n : ℕ) (j : ℕ) where
       go true q t p = absurd (true≢false (sym (ap (λ (u : Bool). u || namedIn n ss j) q) ∙ e))
       go false q true p = absurd (true≢false (sym (ap₂ (λ (u t : Bool). u || t) q p) ∙ e))
       go false q false p = ap₂ (λ (u t : Bool). cond t (valueAt n ss was j) (cond u (gives n s j) was)) q p
+
+  -- and it is the last such value
+  pub value-last : (ss : List Step) (was : ℕ) → namedIn n ss j ≡ true → LastGiven n ss j (valueAt n ss was j)
+  unfolding namedIn valueAt
+  value-last [] was e = absurd (true≢false (sym e))
+  value-last (s ∷ ss) was e = go (namedIn n ss j) refl (λ h. value-last ss was h)
+    where
+      go : (t : Bool) → namedIn n ss j ≡ t → (namedIn n ss j ≡ true → LastGiven n ss j (valueAt n ss was j))
+          → LastGiven n (s ∷ ss) j (cond (namedIn n ss j) (valueAt n ss was j) (cond (names n s j) (gives n s j) was))
+      go true p r =
+          let l = r p in
+          record {
+            before = s ∷ l .before;
+            giver = l .giver;
+            after = l .after;
+            split = ap (λ (x : List Step). s ∷ x) (l .split);
+            named = l .named;
+            last = l .last;
+            value = ap (λ (t : Bool). cond t (valueAt n ss was j) (cond (names n s j) (gives n s j) was)) p ∙ l .value;
+          }
+      go false p r =
+          let here : names n s j ≡ true = sym (or-false (names n s j)) ∙ sym (ap (λ (t : Bool). names n s j || t) p) ∙ e in
+          record {
+            before = [];
+            giver = s;
+            after = ss;
+            split = refl;
+            named = here;
+            last = p;
+            value = ap₂ (λ (t u : Bool). cond t (valueAt n ss was j) (cond u (gives n s j) was)) p here;
+          }
 
   -- the entries one after the other: the first one's value, and then the rest
   pub value-step : (s : Step) (ss : List Step) (was : ℕ) → valueAt n (s ∷ ss) was j ≡ valueAt n ss (cond (names n s j) (gives n s j) was) j
@@ -100,24 +131,24 @@ module _ (n : ℕ) (ss : List Step) (table : List ℕ) where
         others = λ j h e. replayed-other n (take k ss) image j (subst (λ (l : ℕ). j < l) (sym (d .long)) h) (named-take n j k ss e) ∙ d .others j h e;
       }
 
-  pub mix-only : (a b image : List ℕ) → OnlyNamed n ss table a → OnlyNamed n ss table b → length image ≡ length table
-      → ((j : ℕ) → j < length table → (getD image j 0 ≡ getD a j 0) ⊎ (getD image j 0 ≡ getD b j 0)) → OnlyNamed n ss table image
-  mix-only a b image d e l f =
-      record { long = l; others = λ j h q. ⊎-elim (λ p. p ∙ d .others j h q) (λ p. p ∙ e .others j h q) (f j h) }
+  pub mix-only : (a b image : List ℕ) → OnlyNamed n ss table a → OnlyNamed n ss table b → Mix a b image → OnlyNamed n ss table image
+  mix-only a b image d e m =
+      record {
+        long = m .long ∙ d .long;
+        others = λ j h q. ⊎-elim (λ p. p ∙ d .others j h q) (λ p. p ∙ e .others j h q) (m .each j (subst (λ (l : ℕ). j < l) (sym (d .long)) h));
+      }
 
   pub stopped-only : {image : List ℕ} → Stopped n ss table image → OnlyNamed n ss table image
   stopped-only untouched = record { long = refl; others = λ j h q. refl }
   stopped-only (part-applied image k s) = part-only image k (stopped-only s)
-  stopped-only (mixed a b image s t l f) = mix-only a b image (stopped-only s) (stopped-only t) l f
+  stopped-only (mixed a b image s t m) = mix-only a b image (stopped-only s) (stopped-only t) m
 
-  -- "So stops at any byte, any number of times, do no harm"
-  pub stops-do-no-harm : {image : List ℕ} → Stopped n ss table image → replayed n ss image ≡ replayed n ss table
-  stops-do-no-harm {image} s = same-end n ss table image (stopped-only s)
+-- 4. replay's image itself differs from the table only in named places, so replaying twice is replaying once
+pub replayed-only : (n : ℕ) (ss : List Step) (table : List ℕ) → OnlyNamed n ss table (replayed n ss table)
+replayed-only n ss table = record { long = replayed-length n ss table; others = λ j h e. replayed-other n ss table j h e }
 
--- 4. replaying twice is replaying once
 pub replayed-twice : (n : ℕ) (ss : List Step) (table : List ℕ) → replayed n ss (replayed n ss table) ≡ replayed n ss table
-replayed-twice n ss table =
-    same-end n ss table (replayed n ss table) (record { long = replayed-length n ss table; others = λ j h e. replayed-other n ss table j h e })
+replayed-twice n ss table = same-end n ss table (replayed n ss table) (replayed-only n ss table)
 
 -- ---- entry by entry, as the code goes
 pub replayed-none : (n : ℕ) (image : List ℕ) → image ≡ replayed n [] image
@@ -139,6 +170,17 @@ replayed-step n s ss image =
     replayed-is n ss (stepped n s image) (replayed n (s ∷ ss) image) (replayed-length n (s ∷ ss) image ∙ sym (stepped-length n s image))
     (λ j h. let l : j < length image = subst (λ (m : ℕ). j < m) (stepped-length n s image) h in
     replayed-at n (s ∷ ss) image j l ∙ value-step n j s ss (getD image j 0) ∙ ap (λ (v : ℕ). valueAt n ss v j) (sym (stepped-at n s image j l)))
+
+-- the entries in two parts: the first part, and then the rest
+pub replayed-append : (n : ℕ) (ss ts : List Step) (image : List ℕ) → replayed n (ss ++ ts) image ≡ replayed n ts (replayed n ss image)
+replayed-append n [] ts image = ap (replayed n ts) (replayed-none n image)
+replayed-append n (s ∷ ss) ts image =
+    replayed-step n s (ss ++ ts) image ∙ replayed-append n ss ts (stepped n s image) ∙ ap (replayed n ts) (sym (replayed-step n s ss image))
+
+-- one entry more at the end is its step
+pub replayed-snoc : (n : ℕ) (ss : List Step) (s : Step) (image : List ℕ) → replayed n (ss ++ (s ∷ [])) image ≡ stepped n s (replayed n ss image)
+replayed-snoc n ss s image =
+    replayed-append n ss (s ∷ []) image ∙ replayed-step n s [] (replayed n ss image) ∙ sym (replayed-none n (stepped n s (replayed n ss image)))
 
 -- "A clear sets the tag alone": it names no other place, so it undoes no slot of an earlier update
 pub clear-names-tag : (n b j : ℕ) → entryNames n (clear b) j ≡ eqb j b

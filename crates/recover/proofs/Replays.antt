@@ -3,6 +3,7 @@ use mathlib.Core.Path.{_≡_, refl, sym, ap, ap₂, _∙_}
 use mathlib.Core.Bool.{Bool, true, false, cond}
 use mathlib.Core.List.{List}
 use Prim.Native.Nat.{ℕ}
+use native.Mathlib.Omega.{arith}
 use lib.Dec.{eqb}
 use lib.ListN.{length}
 use borrow.Author.Tests.{eq-eqb, ne-eqb}
@@ -56,3 +57,22 @@ module _ (n : ℕ) (image log : List ℕ) (sync : ℕ) (hashes : List ℕ) where
         pub replay-applied : checkAnswer n log (length hashes) ≡ given tt → (given applied ≡ replayAnswer n image log sync hashes) × (replayed n (stepsOf log hashes) image ≡ replayImage n image log sync hashes)
         replay-applied e =
             answers (given applied) (started ∙ ap₂ (λ (x : Answer ℕ) (c : Answer (Unit {0})). afterStart x sync c) start e ∙ ap (λ (t : Bool). cond t (given applied) (given stale)) (eq-eqb s sync same))
+
+-- `applied` is answered only where the image is a table's and the whole log was checked
+pub applied-told : (n : ℕ) (image log : List ℕ) (sync : ℕ) (hashes : List ℕ) → replayAnswer n image log sync hashes ≡ given applied
+    → (imageFits n (length image) ≡ true) × (checkAnswer n log (length hashes) ≡ given tt)
+unfolding replayAnswer
+applied-told n image log sync hashes ok =
+    go (imageFits n (length image)) refl (eqb (length log) 0) (startOf log) (checkAnswer n log (length hashes)) refl ok
+  where
+    not-refused : (t : Bool) (k : ℕ) → cond t (refused k) (given stale) ≡ given applied → ⊥
+    not-refused true k e = let z : _≡_ {A = ℕ} 0 1 = cc in omega arith
+    not-refused false k e = let z : _≡_ {A = ℕ} 0 1 = cc in omega arith
+
+    go : (f : Bool) → imageFits n (length image) ≡ f → (z : Bool) (s : Answer ℕ) (c : Answer (Unit {0})) → checkAnswer n log (length hashes) ≡ c
+        → cond f (cond z (given nothing) (afterStart s sync c)) (refused 1) ≡ given applied → (imageFits n (length image) ≡ true) × (checkAnswer n log (length hashes) ≡ given tt)
+    go true p false (given s) (given tt) q e = (p, q)
+    go true p false (given s) (refused k) q e = absurd (not-refused (eqb s sync) k e)
+    go true p false (refused k) c q e = let z : _≡_ {A = ℕ} 0 1 = cc in absurd (omega arith)
+    go true p true s c q e = let z : _≡_ {A = ℕ} 0 1 = cc in absurd (omega arith)
+    go false p z s c q e = let y : _≡_ {A = ℕ} 0 1 = cc in absurd (omega arith)

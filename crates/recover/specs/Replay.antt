@@ -2,7 +2,7 @@
 use mathlib.Core.Path.{_≡_}
 use mathlib.Core.Logic.{_⊎_}
 use mathlib.Core.Bool.{Bool, true, false, cond, _&&_}
-use mathlib.Core.List.{List, [], _∷_}
+use mathlib.Core.List.{List, [], _∷_, _++_}
 use Prim.Native.Nat.{ℕ, _+_, _<_}
 use lib.Dec.{ltb, eqb}
 use lib.ListN.{length, getD, take}
@@ -12,7 +12,7 @@ use Rattle.ht_file.specs.Places.{imageFits}
 use Rattle.wal.specs.Log.{Entry, clear, update}
 use Rattle.wal.specs.Reader.{startOf, Next, next, ended, stopped, nextAt, Reading, readLog}
 use Rattle.wal_read.specs.Head.{Seen, aClear, anUpdate, theEnd, aRefusal}
-use Rattle.recover.specs.Places.{Step, withHashes, replayed, stepped, namedIn}
+use Rattle.recover.specs.Places.{Step, withHashes, replayed, stepped, names, gives, namedIn}
 use Rattle.recover.specs.declared.Stepped.{Stepped}
 use Rattle.recover.specs.declared.Recovered.{Recovered}
 use Rattle.recover.specs.declared.Stepped.the-variants as S
@@ -136,9 +136,23 @@ pub record OnlyNamed (n : ℕ) (ss : List Step) (table image : List ℕ) : Type 
   pub long : length image ≡ length table
   pub others : (j : ℕ) → j < length table → namedIn n ss j ≡ false → getD image j 0 ≡ getD table j 0
 
+-- "the last value that the log gives it": an entry names place j, no later one does, and v is what it gives
+pub record LastGiven (n : ℕ) (ss : List Step) (j v : ℕ) : Type 0 where
+  pub before : List Step
+  pub giver : Step
+  pub after : List Step
+  pub split : ss ≡ before ++ (giver ∷ after)
+  pub named : names n giver j ≡ true
+  pub last : namedIn n after j ≡ false
+  pub value : v ≡ gives n giver j
+
+-- a bytewise mix of two images
+pub record Mix (a b image : List ℕ) : Type 0 where
+  pub long : length image ≡ length a
+  pub each : (j : ℕ) → j < length a → (getD image j 0 ≡ getD a j 0) ⊎ (getD image j 0 ≡ getD b j 0)
+
 -- the images that stops can leave: the table; what any number of applied entries make of such an image; and any bytewise mix of two
 pub data Stopped (n : ℕ) (ss : List Step) (table : List ℕ) : List ℕ → Type 0 where
   untouched : Stopped n ss table table
   part-applied : (image : List ℕ) (k : ℕ) → Stopped n ss table image → Stopped n ss table (replayed n (take k ss) image)
-  mixed : (a b image : List ℕ) → Stopped n ss table a → Stopped n ss table b → length image ≡ length table
-      → ((j : ℕ) → j < length table → (getD image j 0 ≡ getD a j 0) ⊎ (getD image j 0 ≡ getD b j 0)) → Stopped n ss table image
+  mixed : (a b image : List ℕ) → Stopped n ss table a → Stopped n ss table b → Mix a b image → Stopped n ss table image

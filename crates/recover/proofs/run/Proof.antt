@@ -1,5 +1,5 @@
--- What is left to apply ends where the whole does; the log was checked, so no step refuses. Assumes nothing.
-use Rattle.recover.proofs.Runs.{RunState, run-start, after-clear, after-update, at-the-end}
+-- So many steps make replay of so many entries, and at the end that is all; the log was checked, so no step refuses. Assumes nothing.
+use Rattle.recover.proofs.Runs.{Running, run-start, run-long, after-clear, after-update, at-the-end}
 use Rattle.recover.specs.Replay.{cleared, updated, steppedSaid, stepAnswer, stepImage}
 use Rattle.recover.specs.Places.{replayed}
 use Rattle.ht_file.specs.Places.{imageFits}
@@ -7,7 +7,7 @@ use Rattle.answers.specs.Answers.{given}
 use lib.ListN.{length, getD}
 use borrow.Author.Needs.{needs}
 use native.Mathlib.Omega.{arith}
-use Prim.Native.Nat.{ℕ, _+_, _-_, _≤_, _<_}
+use Prim.Native.Nat.{ℕ, suc, _+_, _-_, _≤_, _<_}
 use mathlib.Core.List.{List}
 use mathlib.Core.Bool.{true}
 use mathlib.Core.Path.{_≡_, refl, sym, ap, _∙_, subst}
@@ -15,14 +15,14 @@ use Rattle.recover.proofs.run.Statement.{statement}
 use Rattle.recover.proofs.run.Tie as tie
 
 abbrev Inv-loop : tie.InvT-loop
-Inv-loop image₀ n log hashes at₀ used₀ image at used = RunState n log hashes image₀ image at used
+Inv-loop image₀ n log hashes at₀ used₀ image at used = Running n log hashes image₀ image at used
 
 abbrev μ-loop : tie.MeasureT-loop
 μ-loop image₀ n log hashes at₀ used₀ image at used = length log - at
 
 -- the image is still the table's
 fits : (c : tie.At-loop Inv-loop μ-loop) → imageFits (c .before .before .before .before .args .n) (length (c .loop .image)) ≡ true
-fits c = let start = c .before .before .before .before in ap (imageFits (start .args .n)) (c .loop .inv .long) ∙ start .pre .0
+fits c = let start = c .before .before .before .before in ap (imageFits (start .args .n)) (run-long (start .args .n) (start .args .log .now) (start .args .hashes .now) (start .args .image .now) (c .loop .image) (c .loop .at) (c .loop .used) (c .loop .inv .1)) ∙ start .pre .0
 
 -- the step's image, with the hash that is lent for it
 image-is : (c : tie.After-apply-entry Inv-loop μ-loop)
@@ -40,14 +40,14 @@ after-cleared : (c : tie.After-known-told Inv-loop μ-loop)
     let at-loop = called .before .before .before in
     let args = at-loop .before .before .before .before .args in
     (at-loop .loop .at + 9 ≤ c .before .step .given .0 .0) × (c .before .step .given .0 .0 ≤ length (args .log .now))
-    × RunState (args .n) (args .log .now) (args .hashes .now) (args .image .now) (called .apply-entry .last .0) (c .before .step .given .0 .0) (at-loop .loop .used)
+    × Running (args .n) (args .log .now) (args .hashes .now) (args .image .now) (called .apply-entry .last .0) (c .before .step .given .0 .0) (at-loop .loop .used)
 after-cleared c =
     let called = c .before .before .before .before .before in
     let at-loop = called .before .before .before in
     let args = at-loop .before .before .before .before .args in
-    let s = after-clear (args .n) (args .log .now) (args .hashes .now) (args .image .now) (at-loop .loop .image) (at-loop .loop .at) (at-loop .loop .used) (at-loop .loop .inv) (fits at-loop) (c .before .step .given .0 .0)
+    let s = after-clear (args .n) (args .log .now) (args .hashes .now) (args .image .now) (at-loop .loop .image) (at-loop .loop .at) (at-loop .loop .used) (at-loop .loop .inv .1) (fits at-loop) (c .before .step .given .0 .0)
     (sym (ap steppedSaid (c .before .step .given .1)) ∙ called .apply-entry .ensures .0) in
-    (s .0, s .1, subst (λ (l : List ℕ). RunState (args .n) (args .log .now) (args .hashes .now) (args .image .now) l (c .before .step .given .0 .0) (at-loop .loop .used)) (sym (image-is called)) (s .2))
+    (s .0, s .1, subst (λ (l : List ℕ). Running (args .n) (args .log .now) (args .hashes .now) (args .image .now) l (c .before .step .given .0 .0) (at-loop .loop .used)) (sym (image-is called)) (suc (at-loop .loop .inv .0), s .2))
 
 -- an update was applied
 after-updated : (c : tie.After-known-told2 Inv-loop μ-loop)
@@ -55,17 +55,17 @@ after-updated : (c : tie.After-known-told2 Inv-loop μ-loop)
     let at-loop = called .before .before .before in
     let args = at-loop .before .before .before .before .args in
     (at-loop .loop .at + 9 ≤ c .before .step2 .given .0 .0) × (c .before .step2 .given .0 .0 ≤ length (args .log .now))
-    × RunState (args .n) (args .log .now) (args .hashes .now) (args .image .now) (called .apply-entry .last .0) (c .before .step2 .given .0 .0) (at-loop .loop .used + 1)
+    × Running (args .n) (args .log .now) (args .hashes .now) (args .image .now) (called .apply-entry .last .0) (c .before .step2 .given .0 .0) (at-loop .loop .used + 1)
 after-updated c =
     let called = c .before .before .before .before .before .before in
     let at-loop = called .before .before .before in
     let args = at-loop .before .before .before .before .args in
-    let s = after-update (args .n) (args .log .now) (args .hashes .now) (args .image .now) (at-loop .loop .image) (at-loop .loop .at) (at-loop .loop .used) (at-loop .loop .inv) (fits at-loop) (c .before .step2 .given .0 .0)
+    let s = after-update (args .n) (args .log .now) (args .hashes .now) (args .image .now) (at-loop .loop .image) (at-loop .loop .at) (at-loop .loop .used) (at-loop .loop .inv .1) (fits at-loop) (c .before .step2 .given .0 .0)
     (sym (ap steppedSaid (c .before .step2 .given .1)) ∙ called .apply-entry .ensures .0) in
-    (s .0, s .1, subst (λ (l : List ℕ). RunState (args .n) (args .log .now) (args .hashes .now) (args .image .now) l (c .before .step2 .given .0 .0) (at-loop .loop .used + 1)) (sym (image-is called)) (s .2))
+    (s .0, s .1, subst (λ (l : List ℕ). Running (args .n) (args .log .now) (args .hashes .now) (args .image .now) l (c .before .step2 .given .0 .0) (at-loop .loop .used + 1)) (sym (image-is called)) (suc (at-loop .loop .inv .0), s .2))
 
 loop-holds : tie.Need-loop-holds Inv-loop μ-loop
-loop-holds c = let start = c .before .before .before in run-start (start .args .n) (start .args .log .now) (start .args .hashes .now) (start .args .image .now) (start .pre .1)
+loop-holds c = let start = c .before .before .before in (0, run-start (start .args .n) (start .args .log .now) (start .args .hashes .now) (start .args .image .now) (start .pre .1))
 
 hash-at-requires : tie.Need-hash-at-requires Inv-loop μ-loop
 hash-at-requires c κs = tt
@@ -86,13 +86,13 @@ enum-known-step-2 : tie.Need-enum-known-step-2 Inv-loop μ-loop
 enum-known-step-2 c = search needs
 
 same-length : tie.Need-same-length Inv-loop μ-loop
-same-length c = let called = c .before .before .before .before in let at-loop = called .before .before .before in called .apply-entry .kept .0 ∙ at-loop .loop .inv .long
+same-length c = let called = c .before .before .before .before in let at-loop = called .before .before .before in let args = at-loop .before .before .before .before .args in called .apply-entry .kept .0 ∙ run-long (args .n) (args .log .now) (args .hashes .now) (args .image .now) (at-loop .loop .image) (at-loop .loop .at) (at-loop .loop .used) (at-loop .loop .inv .1)
 
 returns : tie.Need-returns Inv-loop μ-loop
-returns c = let called = c .before .before .before .before in let at-loop = called .before .before .before in let args = at-loop .before .before .before .before .args in image-is called ∙ at-the-end (args .n) (args .log .now) (args .hashes .now) (args .image .now) (at-loop .loop .image) (at-loop .loop .at) (at-loop .loop .used) (at-loop .loop .inv) (fits at-loop) (called .apply-entry .result) (called .apply-entry .ensures .0) (c .before .match .keys2) (c .match2 .keys2)
+returns c = let called = c .before .before .before .before in let at-loop = called .before .before .before in let args = at-loop .before .before .before .before .args in image-is called ∙ at-the-end (args .n) (args .log .now) (args .hashes .now) (args .image .now) (at-loop .loop .image) (at-loop .loop .at) (at-loop .loop .used) (at-loop .loop .inv .1) (fits at-loop) (called .apply-entry .result) (called .apply-entry .ensures .0) (c .before .match .keys2) (c .match2 .keys2)
 
 add-used : tie.Need-add-used Inv-loop μ-loop
-add-used c = let s = after-updated c in omega (arith, s .0, s .1, s .2 .few)
+add-used c = let s = after-updated c in omega (arith, s .0, s .1, s .2 .1 .few)
 
 loop-less-2 : tie.Need-loop-less-2 Inv-loop μ-loop
 loop-less-2 c = let s = after-updated c in omega (arith, s .0, s .1)

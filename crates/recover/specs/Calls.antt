@@ -1,0 +1,37 @@
+-- 01, 'Replay': "Stops are put as values": the step called entry by entry, and what stops inside such calls leave. Assumes nothing.
+use mathlib.Core.List.{List}
+use Prim.Native.Nat.{ℕ, zero, suc, _+_}
+use lib.ListN.{getD}
+use Rattle.answers.specs.Answers.{Answer, given, refused}
+use Rattle.wal.specs.Log.{startSize}
+use Rattle.recover.specs.Replay.{Went, cleared, updated, atEnd, stepAnswer, stepImage, Mix}
+
+-- where the calls stand: the image, the position last answered, and how many updates have had their hash
+pub record Stand : Type 0 where
+  pub image : List ℕ
+  pub at : ℕ
+  pub used : ℕ
+
+-- by a call's answer and the image that it left
+abbrev pub movedBy : Answer Went → List ℕ → Stand → Stand
+movedBy (given (cleared p)) image w = record { image = image; at = p; used = w .used }
+movedBy (given (updated p)) image w = record { image = image; at = p; used = w .used + 1 }
+movedBy (given atEnd) image w = record { image = image; at = w .at; used = w .used }
+movedBy (refused k) image w = record { image = image; at = w .at; used = w .used }
+
+-- one call of `apply_entry`, whose promise is `stepAnswer` and `stepImage`, with the hash of its update (a clear looks at none)
+abbrev pub called : ℕ → List ℕ → List ℕ → Stand → Stand
+called n log hashes w =
+    movedBy (stepAnswer n (w .image) log (w .at)) (stepImage n (w .image) log (w .at) (getD hashes (w .used) 0)) w
+
+-- so many calls on an image, from the first entry on
+unfoldable pub calls : ℕ → List ℕ → List ℕ → List ℕ → ℕ → Stand
+calls n log hashes image zero = record { image = image; at = startSize; used = 0 }
+calls n log hashes image (suc k) = called n log hashes (calls n log hashes image k)
+
+-- "stops at any byte, any number of times": the table; and what a stop inside a call leaves, k calls after a start on such an image:
+-- each byte is that before the call or that after it
+pub data Cut (n : ℕ) (log hashes table : List ℕ) : List ℕ → Type 0 where
+  uncut : Cut n log hashes table table
+  cut-inside : (start image : List ℕ) (k : ℕ) → Cut n log hashes table start
+      → Mix (calls n log hashes start k .image) (calls n log hashes start (suc k) .image) image → Cut n log hashes table image
