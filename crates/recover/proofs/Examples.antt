@@ -91,15 +91,10 @@ cut-well =
     more
     {e = update (replicate 32 1) (1 ∷ 0 ∷ []) cutNodes (replicate 8 2) 0}
     (record {
-      id-long = refl;
-      two-words = refl;
-      low-word = omega arith;
-      high-word = omega arith;
+      wide = record { id-long = refl; two-words = refl; low-word = omega arith; high-word = omega arith; elided-long = refl; bucket = omega arith };
       plain = refl;
       counted = refl;
       rows = rows;
-      elided-long = refl;
-      bucket = omega arith;
     })
     (more {e = clear 0} (omega arith) none)
   where
