@@ -168,6 +168,13 @@ module _ (n : ℕ) (m : Mem) (pages : List ℕ) (cs : List Change) (sync o len :
   done-log =
       ap (λ (b : Answer (Unit {0})). keptIf b m (memOf (last .tags) (last .marks) (last .cells) (logAfter (came n m pages cs sync .came) end last)) .log) (parts .0) ∙ parts .2
 
+  pub done-left : (syncMem n m pages cs sync .tags ≡ last .tags) × (syncMem n m pages cs sync .marks ≡ last .marks)
+  unfolding syncMem
+  done-left = (
+    ap (λ (b : Answer (Unit {0})). keptIf b m (memOf (last .tags) (last .marks) (last .cells) (logAfter (came n m pages cs sync .came) end last)) .tags) (parts .0),
+    ap (λ (b : Answer (Unit {0})). keptIf b m (memOf (last .tags) (last .marks) (last .cells) (logAfter (came n m pages cs sync .came) end last)) .marks) (parts .0),
+  )
+
   pub done-start : startOf (take len (syncMem n m pages cs sync .log)) ≡ given sync
   done-start =
       ap₂ (λ (k : ℕ) (x : List ℕ). startOf (take k x)) done-length done-log ∙ round-trip-start (m .log) sync (end .writer) (last .log) entries done-run

@@ -5,7 +5,7 @@ use mathlib.Core.Bool.{Bool, true, false, cond}
 use mathlib.Core.List.{List, [], _∷_}
 use Prim.Native.Nat.{ℕ, _+_, _<_, _^_}
 use native.Mathlib.Omega.{arith}
-use lib.ListN.{length, take}
+use lib.ListN.{length, getD, take, length-replicate, getD-replicate}
 use Rattle.answers.specs.Answers.{Answer, given, refused}
 use Rattle.answers.specs.Refusals.{numberOf}
 use Rattle.answers.specs.declared.Refusal.{Refusal}
@@ -25,11 +25,12 @@ use Rattle.sync.specs.declared.SyncAnswer.{SyncAnswer}
 use Rattle.sync.specs.declared.Synced.{Synced}
 use Rattle.sync.specs.declared.Synced.the-variants as synced
 use Rattle.sync.proofs.Accepted.{after-cleared, after-updated, after-allocated, accepted-change}
-use Rattle.sync.proofs.Logged.{done-start, done-back}
+use Rattle.sync.proofs.Logged.{done-left, done-start, done-back}
 use Rattle.sync.proofs.Occupied.{done-occupied}
 use Rattle.sync.proofs.Plans.{Told, as-clear, as-update, as-new, does-told}
 use Rattle.sync.proofs.Refused.{OfStart, OfChange, start-number, refused-before, refused-at}
 use Rattle.sync.proofs.Replayed.{done-replays}
+use Rattle.sync.proofs.Untouched.{Misses, all-tags, wrote, all-marks}
 
 -- ---- one hash for each update that the changes give
 module _ (st : SyncState) (m : Mem) (page : List ℕ) (c : Change) where
@@ -118,6 +119,21 @@ module _ (n : ℕ) (m : Mem) (pages : List ℕ) (cs : List Change) (sync : ℕ) 
 
     pub sync-reads-back : readLog (take len (after .log)) ≡ record { entries = logged; at = startSize + length (recordsOf logged); stop = given tt }
     sync-reads-back = ap readLog (sym same-log) ∙ done-back n m pages cs sync o len (widths .0) (widths .1) says
+
+    -- each tag outside the buckets of the logged entries is as before; each mark is 1 where a tag of its page was written, else 0
+    pub sync-other-tags : (i : ℕ) → Misses i logged → getD (after .tags) i 0 ≡ getD (m .tags) i 0
+    sync-other-tags i misses =
+        ap (λ (x : Mem). getD (x .tags) i 0) (p .memory)
+        ∙ ap (λ (x : List ℕ). getD x i 0) (done-left n m pages cs sync o len (widths .0) (widths .1) says .0)
+        ∙ all-tags i pages cs (startMem m sync) 0 (startState n m) misses
+
+    pub sync-marks : (q : ℕ) → q < length (m .marks) → getD (after .marks) q 0 ≡ cond (wrote (startMem m sync) pages cs 0 (startState n m) q) 1 0
+    sync-marks q l =
+        let long : length (startMem m sync .marks) ≡ length (m .marks) = length-replicate (length (m .marks)) 0 in
+        ap (λ (x : Mem). getD (x .marks) q 0) (p .memory)
+        ∙ ap (λ (x : List ℕ). getD x q 0) (done-left n m pages cs sync o len (widths .0) (widths .1) says .1)
+        ∙ all-marks q pages cs (startMem m sync) 0 (startState n m) (omega (arith, long))
+        ∙ ap (cond (wrote (startMem m sync) pages cs 0 (startState n m) q) 1) (getD-replicate (length (m .marks)) q 0 0 l)
 
     came-through : (i : ℕ) × (came n m pages cs sync .came ≡ through i)
     unfolding syncSays
