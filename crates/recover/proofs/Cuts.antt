@@ -1,5 +1,5 @@
--- Stops of the step's own calls: k calls of `apply_entry` leave replay of the first k entries, so a stop inside the next leaves a mix of two
--- such images, and demand 3 holds of it. Assumes nothing.
+-- k calls of `apply_entry` make replay of the first k entries, so a stop inside the next leaves a mix of two such images,
+-- and demand 3 holds of it. Assumes nothing.
 use mathlib.Core.Path.{_≡_, sym, ap, _∙_, subst}
 use mathlib.Core.Bool.{true, cond}
 use mathlib.Core.List.{List}

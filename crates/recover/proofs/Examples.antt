@@ -1,5 +1,5 @@
--- 01, 'Checked by hand': a clear replayed under its own sync number and under another, by the laws of replay; and a power cut that meets
--- what demand 3 asks of an image. Assumes nothing.
+-- 01, 'Checked by hand': a clear replayed under its own sync number and under another; and a power cut that demand 3
+-- speaks of; by the laws of replay. Assumes nothing.
 use mathlib.Core.Path.{_≡_, refl, sym, ap, ap₂, _∙_}
 use mathlib.Core.Bool.{true}
 use mathlib.Core.Logic.{_⊎_, inl, inr}
@@ -68,8 +68,8 @@ module _ (table : List ℕ) (long : length table ≡ 8192) (empty : getD table 0
 pub replays : map (clearedUnder (replicate 8192 0)) (7 ∷ 8 ∷ []) ≡ (given applied, 0x7F) ∷ (given stale, 0) ∷ []
 replays = both (replicate 8192 0) (length-replicate {A = ℕ} 8192 0) (getD-replicate {A = ℕ} 8192 0 0 0 (omega arith))
 
--- ---- a power cut, on a table of zeros: bucket 0 is updated, with slot 0 alone marked, and then cleared; of all this only the update's tag
--- is written when the power goes
+-- ---- a power cut, on a table of zeros: bucket 0 is updated, with slot 0 alone marked, and then cleared; of all this only
+-- the update's tag is written when the power goes
 abbrev pub zeros : List ℕ
 zeros = replicate 8192 0
 

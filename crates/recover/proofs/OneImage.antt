@@ -1,5 +1,5 @@
--- Demand 3 of the call: `replayAnswer` and `replayImage` are what `recover` promises of its answer and of the image that it is lent. The
--- answer looks at the image's length alone, and at a named place the image does not matter. Assumes nothing.
+-- Demand 3 of `recover`, whose promise is `replayAnswer` and `replayImage`: the answer looks at the image's length alone,
+-- and at a named place what stood there does not matter. Assumes nothing.
 use mathlib.Core.Path.{_≡_, sym, ap, _∙_, subst}
 use mathlib.Core.Bool.{true}
 use mathlib.Core.List.{List}
@@ -17,8 +17,8 @@ applied-image n image log sync hashes ok = ap (λ (a : Answer Did). imageBy a im
 
 -- "Take a log accepted for a table"
 module _ (n : ℕ) (table log : List ℕ) (sync : ℕ) (hashes : List ℕ) (ok : replayAnswer n table log sync hashes ≡ given applied) where
-  -- "and an image that differs from that table only in places the log names. Replay from the start, with the same sync number and hashes,
-  -- ends in one and the same image for both": it is accepted for the image too
+  -- "and an image that differs from that table only in places the log names. Replay from the start, with the same sync
+  -- number and hashes, ends in one and the same image for both": the log is accepted for the image too
   pub demand-3 : (image : List ℕ) → OnlyNamed n (stepsOf log hashes) table image
       → (replayAnswer n image log sync hashes ≡ given applied) × (replayImage n image log sync hashes ≡ replayImage n table log sync hashes)
   demand-3 image d =

@@ -1,5 +1,5 @@
--- The run over a log that was checked: each entry's step is taken, so that k steps make replay of the first k entries, and the second
--- reading does not refuse. Assumes nothing.
+-- The run over a log that was checked: each entry's step is taken, so that k steps make replay of the first k entries,
+-- and the second reading does not refuse. Assumes nothing.
 use mathlib.Core.Path.{_≡_, refl, sym, ap, ap₂, _∙_, subst}
 use mathlib.Core.Logic.{_⊎_, ⊎-elim}
 use mathlib.Core.Bool.{Bool, true, false, cond, _&&_, true≢false}
@@ -106,7 +106,7 @@ module _ (n : ℕ) (log hashes table image : List ℕ) (at used : ℕ) {k : ℕ}
   abbrev steps : List Step
   steps = stepsOf log hashes
 
-  -- the entry that stands there is the next of them, and those after it are left; its step is taken with the hash that is lent for it
+  -- the entry that stands there is the next of them, its step taken with the hash that is lent for it; those after it are left
   next-step : (e : Entry) (p used′ : ℕ) → nextAt log at ≡ next e p → used′ ≡ used + oneUpdate e
       → (stepped n (record { entry = e; hash = getD hashes used 0 }) image ≡ replayed n (take (suc k) steps) table) × (drop (suc k) steps ≡ withHashes (readFrom log p .entries) (drop used′ hashes))
   unfolding withHashes

@@ -1,4 +1,5 @@
--- 01, 'Replay': "Stops are put as values": the step called entry by entry, and what stops inside such calls leave. Assumes nothing.
+-- 01, 'Replay', "Stops are put as values": the step called entry by entry, and what stops inside its calls leave.
+-- Assumes nothing.
 use mathlib.Core.List.{List}
 use Prim.Native.Nat.{ℕ, zero, suc, _+_}
 use lib.ListN.{getD}
@@ -19,7 +20,7 @@ movedBy (given (updated p)) image w = record { image = image; at = p; used = w .
 movedBy (given atEnd) image w = record { image = image; at = w .at; used = w .used }
 movedBy (refused k) image w = record { image = image; at = w .at; used = w .used }
 
--- one call of `apply_entry`, whose promise is `stepAnswer` and `stepImage`, with the hash of its update (a clear looks at none)
+-- one call of `apply_entry`, by its promise, with the hash of its update (a clear looks at none)
 abbrev pub called : ℕ → List ℕ → List ℕ → Stand → Stand
 called n log hashes w =
     movedBy (stepAnswer n (w .image) log (w .at)) (stepImage n (w .image) log (w .at) (getD hashes (w .used) 0)) w
@@ -29,8 +30,8 @@ unfoldable pub calls : ℕ → List ℕ → List ℕ → List ℕ → ℕ → St
 calls n log hashes image zero = record { image = image; at = startSize; used = 0 }
 calls n log hashes image (suc k) = called n log hashes (calls n log hashes image k)
 
--- "stops at any byte, any number of times": the table; and what a stop inside a call leaves, k calls after a start on such an image:
--- each byte is that before the call or that after it
+-- "stops at any byte, any number of times": the table; and, k calls after a start on such an image, what a stop inside
+-- the next leaves: each byte is that before the call or that after it
 pub data Cut (n : ℕ) (log hashes table : List ℕ) : List ℕ → Type 0 where
   uncut : Cut n log hashes table table
   cut-inside : (start image : List ℕ) (k : ℕ) → Cut n log hashes table start

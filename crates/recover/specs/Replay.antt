@@ -151,7 +151,7 @@ pub record Mix (a b image : List ℕ) : Type 0 where
   pub long : length image ≡ length a
   pub each : (j : ℕ) → j < length a → (getD image j 0 ≡ getD a j 0) ⊎ (getD image j 0 ≡ getD b j 0)
 
--- the images that stops can leave: the table; what any number of applied entries make of such an image; and any bytewise mix of two
+-- the images that stops can leave: the table; what any number of applied entries make of such an image; any mix of two
 pub data Stopped (n : ℕ) (ss : List Step) (table : List ℕ) : List ℕ → Type 0 where
   untouched : Stopped n ss table table
   part-applied : (image : List ℕ) (k : ℕ) → Stopped n ss table image → Stopped n ss table (replayed n (take k ss) image)

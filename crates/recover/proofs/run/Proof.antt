@@ -1,4 +1,5 @@
--- So many steps make replay of so many entries, and at the end that is all; the log was checked, so no step refuses. Assumes nothing.
+-- k steps make replay of the first k entries, and at the end that is all of them; the log was checked, so no step refuses.
+-- Assumes nothing.
 use Rattle.recover.proofs.Runs.{Running, run-start, run-long, after-clear, after-update, at-the-end}
 use Rattle.recover.specs.Replay.{cleared, updated, steppedSaid, stepAnswer, stepImage}
 use Rattle.recover.specs.Places.{replayed}
