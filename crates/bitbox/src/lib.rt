@@ -643,7 +643,7 @@ pub extern "C" fn bitbox_unpack(
 ) -> Answer
     ensures { λ r. ⌜ (r ≡ outcomeWords (unpackAnswer (pair lo hi) count (now (page .entry)))) × (now (page .exit) ≡ unpackedPage (pair lo hi) (now (nodes .entry)) count (now (page .entry))) ⌝ }
 {
-    of_outcome(page_diff::unpack_changed_nodes(diff(lo, hi), nodes, count, page))
+    of_outcome(page_diff::unpack_lent_nodes(diff(lo, hi), nodes, count, page))
 }
 
 // ---- tags and places
@@ -920,7 +920,7 @@ pub extern "C" fn bitbox_write_update(
 ) -> Written
     ensures { λ r. ⌜ (r ≡ writtenWords (updateAnswer (now (log .entry)) (writerOf w) (pair lo hi) count) (updateWriter (now (log .entry)) (writerOf w) (pair lo hi) count)) × (now (log .exit) ≡ updateLog (now (log .entry)) (writerOf w) (now (id .entry)) (pair lo hi) (now (nodes .entry)) count (now (elided .entry)) bucket) ⌝ }
 {
-    of_written(wal_write::write_update(
+    of_written(wal_write::write_lent_update(
         log,
         writer_of(w),
         *id,

@@ -150,7 +150,7 @@ fn pack(lo: u64, hi: u64, page: &[u8]) {
 fn unpack(lo: u64, hi: u64, held: usize, page: &mut [u8]) {
     let words = [lo, hi];
     let nodes = [[2u8; 32]; 126];
-    let outcome = page_diff::unpack_changed_nodes(Diff { words }, &nodes, held, page);
+    let outcome = page_diff::unpack_changed_nodes(Diff { words }, nodes, held, page);
     say_number(b"unpack ", lo);
     say_number(b" ", hi);
     say_number(b" with ", held as u64);

@@ -1,10 +1,12 @@
 -- 01, 'Page' and 'Diff': the marked nodes of a page, packed and put back. Assumes nothing.
+use mathlib.Core.Path.{_≡_}
 use mathlib.Core.Bool.{Bool, cond}
 use mathlib.Core.List.{List, [], _∷_, _++_, map}
 use Prim.Native.Nat.{ℕ, _+_, _-_, _*_, _/_, _%_}
 use lib.Dec.{eqb}
 use lib.ListN.{length, getD, take, drop, replicate}
-use Rattle.answers.specs.Answers.{Answer, given, refused, accepted}
+use Rattle.answers.specs.Answers.{Answer, given, refused, accepted, outcomeSaid}
+use Rattle.answers.specs.declared.Outcome.{Outcome}
 use Rattle.blocks.specs.Blocks.{block, tabulate}
 use Rattle.page_diff.specs.Diff.{marked, slotsBelow, slots, countOf, reserved}
 use Rattle.page_diff.specs.declared.Packed.{Packed}
@@ -48,3 +50,7 @@ unpackedByte ws ns page j =
 abbrev pub unpackedPage : List ℕ → List (List ℕ) → ℕ → List ℕ → List ℕ
 unpackedPage ws ns count page =
     cond (accepted (unpackAnswer ws count page)) (tabulate (unpackedByte ws ns page) 4096) page
+
+-- what unpacking promises, of a table given or lent, with its answer r and the page afterwards
+abbrev pub Unpacks : List ℕ → List (List ℕ) → ℕ → List ℕ → Outcome → List ℕ → Type 0
+Unpacks ws ns count page r out = (outcomeSaid r ≡ unpackAnswer ws count page) × (out ≡ unpackedPage ws ns count page)

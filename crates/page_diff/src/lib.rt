@@ -7,7 +7,7 @@ ghost use Rattle.answers.specs.Refusals.{numberOf};
 ghost use Rattle.blocks.specs.Blocks.{tabulate};
 ghost use Rattle.answers.specs.Answers.{refused, outcomeSaid, truthSaid};
 ghost use Rattle.page_diff.specs.Diff.{slots, marked, countOf, reserved, setAnswer, setWords, askAnswer, clearedWords, joined, firstSlot, withoutFirst, bytesOfWords, readAnswer, readWords};
-ghost use Rattle.page_diff.specs.Pack.{tableOf, packedBy, packAnswer, packedOf, unpackAnswer, unpackedByte, unpackedPage};
+ghost use Rattle.page_diff.specs.Pack.{tableOf, packedBy, packAnswer, packedOf, unpackedByte, Unpacks};
 use answers::Outcome;
 use answers::Refusal;
 use answers::Truth;
@@ -254,15 +254,23 @@ fn pack_nodes(d: Diff, page: &[u8]) -> [[u8; 32]; 126]
     }
 }
 
-// Puts packed nodes back at the marked slots of a page; every other byte stays. Refused: a page that is
-// not 4,096 bytes (2), bit 126 or 127 (4), a count that is not the diff's (2).
+// Puts packed nodes, by value with their count, back at the marked slots of a page; every other byte stays.
+// Refused: a page that is not 4,096 bytes (2), bit 126 or 127 (4), a count that is not the diff's (2). Entries
+// past the count are not looked at.
 pub fn unpack_changed_nodes(
     d: Diff,
-    nodes: &[[u8; 32]; 126],
+    nodes: [[u8; 32]; 126],
     held: usize,
     page: &mut [u8],
 ) -> Outcome
-    ensures { λ r. ⌜ (outcomeSaid r ≡ unpackAnswer (d .words) held (now (page .entry))) × (now (page .exit) ≡ unpackedPage (d .words) (now (nodes .entry)) held (now (page .entry))) ⌝ }
+    ensures { λ r. ⌜ Unpacks (d .words) nodes held (now (page .entry)) r (now (page .exit)) ⌝ }
+{
+    unpack_lent_nodes(d, &nodes, held, page)
+}
+
+// The same of a lent table, so that none is moved.
+pub fn unpack_lent_nodes(d: Diff, nodes: &[[u8; 32]; 126], held: usize, page: &mut [u8]) -> Outcome
+    ensures { λ r. ⌜ Unpacks (d .words) (now (nodes .entry)) held (now (page .entry)) r (now (page .exit)) ⌝ }
 {
     if page.len() != 4096 {
         return Outcome::Refused(Refusal::LengthUnfit);
@@ -277,12 +285,12 @@ pub fn unpack_changed_nodes(
     Outcome::Done
 }
 
-// The same, for a whole page and a diff of nodes alone.
+// The nodes themselves, for a whole page and a diff of nodes alone.
 fn unpack_nodes(d: Diff, nodes: &[[u8; 32]; 126], page: &mut [u8])
     requires { ⌜ (reserved (d .words) ≡ false) × (length (now page) ≡ 4096) ⌝ }
     ensures { λ _. ⌜ now (page .exit) ≡ tabulate (unpackedByte (d .words) (now (nodes .entry)) (now (page .entry))) 4096 ⌝ }
 {
-    let mut c = 0;
+    let mut c: usize = 0;
     let mut left = d;
     loop {
         let next = next_slot(left);

@@ -288,6 +288,30 @@ fn with_update(log: &mut [u8], w: Writer, bucket: u64, lo: u64, hi: u64, seed: u
     u.writer
 }
 
+// The same update, from nodes by value with an entry past their count.
+fn with_packed(log: &mut [u8], w: Writer, bucket: u64, lo: u64, hi: u64, seed: u8) -> Writer {
+    let mut page = [0u8; 4096];
+    fill(&mut page, seed as usize);
+    let words = [lo, hi];
+    let packing = page_diff::pack_changed_nodes(Diff { words }, &page);
+    let packed = packing.packed;
+    let count = packed.count;
+    let mut nodes = page_diff::nodes_of(packed);
+    nodes[125] = [seed; 32];
+    let elided = blocks::block_8(&page, 4056);
+    let u = wal_write::write_update(
+        log,
+        w,
+        [seed; 32],
+        Diff { words },
+        nodes,
+        count,
+        elided,
+        bucket,
+    );
+    u.writer
+}
+
 // Bucket 0 updated twice, with other slots and another hash, and cleared between.
 fn twice() {
     let mut log = [0u8; 4096];
@@ -323,12 +347,12 @@ fn whole_pages() {
     finished(b"whole pages", &mut log, w, &hashes);
 }
 
-// The same update twice, and clears that change nothing.
+// The same update twice, from its page and from its nodes, and clears that change nothing.
 fn again() {
     let mut log = [0u8; 4096];
     let w = begun(&mut log);
     let w = with_update(&mut log, w, 2, 3, 0, 8);
-    let w = with_update(&mut log, w, 2, 3, 0, 8);
+    let w = with_packed(&mut log, w, 2, 3, 0, 8);
     let w = with_clear(&mut log, w, 0);
     let w = with_clear(&mut log, w, 0);
     let hashes = [5, 5];

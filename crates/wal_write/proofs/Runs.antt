@@ -1,15 +1,14 @@
 -- A run of accepted calls goes on by each call, and finish closes it: by what the call promises, and nothing else. What is written is well
 -- formed, for the promise hands out the widths and acceptance tells the rest. Assumes nothing.
-use mathlib.Core.Path.{_≡_, refl, sym, ap, ap₂, _∙_, subst₂}
+use mathlib.Core.Path.{_≡_, sym, ap, _∙_, subst₂}
 use mathlib.Core.Bool.{true}
 use mathlib.Core.List.{List, [], _∷_, _++_}
 use Prim.Native.Nat.{ℕ, _+_}
 use lib.ListN.{length, take}
 use Rattle.answers.specs.Answers.{given, accepted, outcomeSaid, numberSaid}
 use Rattle.wal.specs.Log.{Entry, clear, update, recordsOf, startSize, finishedLength}
-use Rattle.wal.specs.Reader.{startOf, readLog, Reading}
+use Rattle.wal.specs.Reader.{startOf, readLog}
 use Rattle.wal.specs.Run.{Run, begun, with-clear}
-use Rattle.wal.specs.Writer.{finishLog}
 use Rattle.wal.specs.declared.Writer.{Writer}
 use Rattle.wal.proofs.RoundTrip.{finish-fits, round-trip-start, round-trip}
 use Rattle.wal_write.specs.Calls.{Begins, Clears, Updates, UpdatesPage, Finishes, pageUpdate}

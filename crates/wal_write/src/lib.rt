@@ -174,9 +174,25 @@ fn put_tail(log: &mut [u8], at: usize, elided: [u8; 8], bucket: u64)
     blocks::write_u64(log, bucket_at, bucket);
 }
 
-// Writes an update with the first `held` nodes of a table: 12, 2 where that is not the diff's count, 4,
-// 13. Entries past the count are not looked at.
+// Writes an update with the first `held` nodes of a table by value: 12, 2 where that is not the diff's count,
+// 4, 13. Entries past the count are not looked at.
 pub fn write_update(
+    log: &mut [u8],
+    w: Writer,
+    id: [u8; 32],
+    d: Diff,
+    nodes: [[u8; 32]; 126],
+    held: usize,
+    elided: [u8; 8],
+    bucket: u64,
+) -> Written
+    ensures { λ r. ⌜ Updates (now (log .entry)) w id (d .words) nodes held elided bucket r (now (log .exit)) ⌝ }
+{
+    write_lent_update(log, w, id, d, &nodes, held, elided, bucket)
+}
+
+// The same of a lent table, so that none is moved.
+pub fn write_lent_update(
     log: &mut [u8],
     w: Writer,
     id: [u8; 32],

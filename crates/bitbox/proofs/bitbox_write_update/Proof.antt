@@ -17,8 +17,8 @@ writer-of-requires c κs = search needs
 diff-requires : tie.Need-diff-requires
 diff-requires c κs = search needs
 
-write-update-requires : tie.Need-write-update-requires
-write-update-requires c κs = search needs
+write-lent-update-requires : tie.Need-write-lent-update-requires
+write-lent-update-requires c κs = search needs
 
 of-written-requires : tie.Need-of-written-requires
 of-written-requires c κs = search needs
@@ -28,18 +28,18 @@ same-length c = search needs
 
 returns : tie.Need-returns
 returns c =
-    let at-write-update = c .before .before .before in
+    let at-update = c .before .before .before in
     let at-diff = c .before .before .before .before .before in
     let at-writer-of = c .before .before .before .before .before .before .before in
     let args = c .before .before .before .before .before .before .before .before .before .before .args in
     let log = args .log .now in
     let count = args .count in (
       c .of-written .ensures
-          ∙ ap (λ (a : Answer (Unit {0})). writtenWords a (at-write-update .write-update .result .writer)) (at-write-update .write-update .ensures .0)
-          ∙ ap (writtenWords (updateAnswer log (at-writer-of .writer-of .result) (at-diff .diff .result .words) count)) (at-write-update .write-update .ensures .1 .0)
+          ∙ ap (λ (a : Answer (Unit {0})). writtenWords a (at-update .write-lent-update .result .writer)) (at-update .write-lent-update .ensures .0)
+          ∙ ap (writtenWords (updateAnswer log (at-writer-of .writer-of .result) (at-diff .diff .result .words) count)) (at-update .write-lent-update .ensures .1 .0)
           ∙ ap (λ (w : Writer). writtenWords (updateAnswer log w (at-diff .diff .result .words) count) (updateWriter log w (at-diff .diff .result .words) count)) (at-writer-of .writer-of .ensures)
           ∙ ap (λ (ws : List ℕ). writtenWords (updateAnswer log (writerOf (args .w)) ws count) (updateWriter log (writerOf (args .w)) ws count)) (at-diff .diff .ensures),
-      at-write-update .write-update .ensures .1 .1
+      at-update .write-lent-update .ensures .1 .1
           ∙ ap (λ (w : Writer). updateLog log w (args .id .now) (at-diff .diff .result .words) (args .nodes .now) count (args .elided .now) (args .bucket)) (at-writer-of .writer-of .ensures)
           ∙ ap (λ (ws : List ℕ). updateLog log (writerOf (args .w)) (args .id .now) ws (args .nodes .now) count (args .elided .now) (args .bucket)) (at-diff .diff .ensures),
     )
@@ -50,7 +50,7 @@ bitbox-write-update-spec =
     (tie.spec
     writer-of-requires
     diff-requires
-    write-update-requires
+    write-lent-update-requires
     of-written-requires
     same-length
     returns)

@@ -7,8 +7,8 @@ use mathlib.Core.List.{List}
 use mathlib.Core.Bool.{Bool, true, false}
 use mathlib.Core.Path.{_≡_, refl, sym, ap, ap₂, _∙_}
 use borrow.Author.Needs.{needs}
-use Rattle.page_diff.proofs.unpack_changed_nodes.Statement.{statement}
-use Rattle.page_diff.proofs.unpack_changed_nodes.Tie as tie
+use Rattle.page_diff.proofs.unpack_lent_nodes.Statement.{statement}
+use Rattle.page_diff.proofs.unpack_lent_nodes.Tie as tie
 
 returns : tie.Need-returns
 returns c = let start = c .before .before in let ws = start .args .d .words in let page = start .args .page .now in let held = start .args .held in let ns = start .args .nodes .now in let e = unpack-length ws held page (c .if1 .taken) in (sym e, unpacked-refused ws held page ns 2 e)
@@ -34,8 +34,8 @@ same-length c = search needs
 returns-4 : tie.Need-returns-4
 returns-4 c = let called = c .before .before in let past = called .before .before in let start = past .before .before .before .before .before .before in let ws = start .args .d .words in let page = start .args .page .now in let held = start .args .held in let ns = start .args .nodes .now in let off : reserved ws ≡ false = sym (past .before .before .before .is-reserved .ensures) ∙ past .before .before .if2 .left in let e = unpack-given ws held page (past .before .before .before .before .if1 .left) off (sym (sym (past .before .count .ensures) ∙ past .if3 .left)) in (sym e, called .unpack-nodes .ensures ∙ unpacked-given ws held page ns e)
 
-pub unpack-changed-nodes-spec : {M : Type 1} → statement M
-unpack-changed-nodes-spec =
+pub unpack-lent-nodes-spec : {M : Type 1} → statement M
+unpack-lent-nodes-spec =
     tie.close
     (tie.spec
     returns

@@ -23,8 +23,8 @@ use Rattle.wal_write.specs.Calls.{Updates}
 use Rattle.wal_write.specs.declared.Written.{Written}
 use Rattle.wal_write.proofs.Bytes.{put-update}
 use Rattle.wal_write.proofs.CallLaws.{update-tests, not-open, unfit, reserved-bit, no-room, taken, record-refused, record-given}
-use Rattle.wal_write.proofs.write_update.Statement.{statement}
-use Rattle.wal_write.proofs.write_update.Tie as tie
+use Rattle.wal_write.proofs.write_lent_update.Statement.{statement}
+use Rattle.wal_write.proofs.write_lent_update.Tie as tie
 
 -- what is lent and asked for
 module _ (c : tie.Start) where
@@ -220,8 +220,8 @@ returns-5 c =
     ∙ put-update (log s) (at k) (s .args .id) (ws s) ns (s .args .elided) (s .args .bucket) (held s) (head .put-head .ensures .1) (nodes .put-nodes .ensures .1) (tail .put-tail .ensures .1) (fits past)) in
     (left .0, left .1, wide s, λ ok. nodes .put-nodes .ensures .2)
 
-pub write-update-spec : {M : Type 1} → statement M
-write-update-spec =
+pub write-lent-update-spec : {M : Type 1} → statement M
+write-lent-update-spec =
     tie.close
     (tie.spec
     enum-known-w
