@@ -6,3 +6,5 @@ pub mod Rows
 pub mod Walk
 pub mod PackLaws
 pub mod Examples
+pub mod PastCount
+pub mod OneAnswer

@@ -4,5 +4,6 @@ pub mod WriterLaws
 pub mod PageUpdates
 pub mod Runs
 pub mod RunExamples
+pub mod PastCount
 pub mod Examples
 pub mod Packing
