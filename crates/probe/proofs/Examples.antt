@@ -1,31 +1,72 @@
--- 01, 'Checked by hand': two paths and three allocations, by computation. Assumes nothing.
+-- 01, 'Path': what probing on, lookup and allocation answer, each answer and each refusal, in literals; and a table on which a page is stored
+-- and found. Assumes nothing.
 use mathlib.Core.Path.{_≡_, refl}
-use mathlib.Core.List.{List, [], _∷_}
+use mathlib.Core.List.{List, [], _∷_, _++_, map}
 use Prim.Native.Nat.{ℕ, zero, suc, _<_}
 use native.Mathlib.Omega.{arith}
 use lib.ListN.{getD, replicate}
 use Rattle.answers.specs.Answers.{given, refused}
-use Rattle.probe.specs.Path.{visits, hitLimit, allocating, probing, emptyAt, hitAt, closed, pageEnd, allocateAnswer, allocatedTags, lookupAnswer, foundAt}
+use Rattle.answers.specs.declared.Refusal.the-variants.{TableUnfit, PathCrowded, PathClosed}
+use Rattle.probe.specs.Path.{visits, hitLimit, allocating, probing, lookingUp, emptyAt, tombstoneAt, hitAt, closed, pageEnd, probeAnswer, allocateAnswer, allocatedTags, lookupAnswer, foundAt, absent, unreached, probedSaid, foundSaid, allocatedSaid}
+use Rattle.probe.specs.declared.Probed.the-variants as probed
+use Rattle.probe.specs.declared.Found.the-variants as found
+use Rattle.probe.specs.declared.Allocated.the-variants as allocated
 use Rattle.probe.proofs.Promises.{HasPage, found-after-allocation}
+
+-- a page of tags that begins with these
+abbrev tags2 : ℕ → ℕ → List ℕ
+tags2 a b = a ∷ b ∷ replicate 4094 0
+
+abbrev tags3 : ℕ → ℕ → ℕ → List ℕ
+tags3 a b c = a ∷ b ∷ c ∷ replicate 4093 0
 
 -- "n=8, hash 8: path 0 1 3 6 2 7 5 4"; "n=5, hash 5: 0 1 3 1 0"
 pub paths : visits 8 8 0 8 ∷ visits 5 5 0 5 ∷ [] ≡ (0 ∷ 1 ∷ 3 ∷ 6 ∷ 2 ∷ 7 ∷ 5 ∷ 4 ∷ []) ∷ (0 ∷ 1 ∷ 3 ∷ 1 ∷ 0 ∷ []) ∷ []
 unfolding visits
 paths = refl
 
--- "n=3, hash 0, tags 81 81 00: 11"; "80 81 00: 10"; "81 7F 00: bucket 1"
-pub allocations : allocating hitLimit (0x81 ∷ 0x81 ∷ 0x00 ∷ []) 3 0 ∷ allocating hitLimit (0x80 ∷ 0x81 ∷ 0x00 ∷ []) 3 0 ∷ allocating hitLimit (0x81 ∷ 0x7F ∷ 0x00 ∷ []) 3 0 ∷ [] ≡ refused 11 ∷ refused 10 ∷ given 1 ∷ []
+-- hash 0 in two buckets: from visit 0 on; from visit 1 on, where "the path goes 1, 1, 0"; visit 5 taken mod 4; and another table's tags
+pub probes : probeAnswer (tags2 0x00 0x80) 2 0 0 ∷ probeAnswer (tags2 0x7F 0x80) 2 0 0 ∷ probeAnswer (tags2 0x80 0x00) 2 0 0 ∷ probeAnswer (tags2 0x01 0x81) 2 0 0
+    ∷ probeAnswer (tags2 0x00 0x01) 2 0 1 ∷ probeAnswer (tags2 0x80 0x01) 2 0 1 ∷ probeAnswer (tags2 0x7F 0x01) 2 0 5 ∷ probeAnswer (tags2 0x00 0x80) 4097 0 0 ∷ []
+    ≡ given (emptyAt 0 0) ∷ given (tombstoneAt 0 0) ∷ given (hitAt 0 0) ∷ given closed
+    ∷ given (emptyAt 0 3) ∷ given (hitAt 0 3) ∷ given (tombstoneAt 0 3) ∷ refused 1 ∷ []
+unfolding probing
+probes = refl
+
+-- hash 0 in three buckets, whose path is 0 1 0 0 1 0: bucket 2 is never met; hits up to the limit, and one more
+pub allocations : map (λ ts. allocateAnswer hitLimit ts 3 0) (tags3 0x00 0x80 0x80 ∷ tags3 0x81 0x7F 0x00 ∷ tags3 0x80 0x81 0x00 ∷ tags3 0x81 0x81 0x00 ∷ [])
+    ∷ (allocateAnswer 1 (tags3 0x80 0x00 0x00) 3 0 ∷ allocateAnswer 0 (tags3 0x80 0x00 0x00) 3 0 ∷ allocateAnswer hitLimit (tags3 0x00 0x00 0x00) 0 0 ∷ given hitLimit ∷ []) ∷ []
+    ≡ (given 0 ∷ given 1 ∷ refused 10 ∷ refused 11 ∷ []) ∷ (given 1 ∷ refused 10 ∷ refused 1 ∷ given 9998 ∷ []) ∷ []
 unfolding allocating
 allocations = refl
 
--- "For n=2 from visit 1 the path goes 1, 1, 0": what stands in bucket 0 is met at visit 3
-pub continued : visits 2 0 1 3 ≡ 1 ∷ 1 ∷ 0 ∷ []
-unfolding visits
-continued = refl
+-- the tags afterwards
+pub allocated-tags : allocatedTags hitLimit (tags3 0x81 0x7F 0x00) 3 0 ∷ allocatedTags hitLimit (tags3 0x80 0x81 0x00) 3 0 ∷ [] ≡ tags3 0x81 0x80 0x00 ∷ tags3 0x80 0x81 0x00 ∷ []
+unfolding allocating
+allocated-tags = refl
 
-pub probes : probing (0x00 ∷ 0x01 ∷ []) 2 0 1 ∷ probing (0x80 ∷ 0x01 ∷ []) 2 0 1 ∷ probing (0x02 ∷ 0x01 ∷ []) 2 0 1 ∷ [] ≡ emptyAt 0 3 ∷ hitAt 0 3 ∷ closed ∷ []
-unfolding probing
-probes = refl
+-- an image of one bucket with this tag, whose page ends in the id 8, 7 .. 7, with 9s for the elided bytes before it
+abbrev image1 : ℕ → List ℕ
+image1 t = t ∷ (replicate 8151 0 ++ (replicate 8 9 ++ (8 ∷ replicate 31 7)))
+
+abbrev id1 : List ℕ
+id1 = 8 ∷ replicate 31 7
+
+pub page-end : pageEnd (image1 0x80) 1 0 ≡ id1
+page-end = refl
+
+pub lookups : lookupAnswer (image1 0x80) 1 0 id1 ∷ lookupAnswer (image1 0x80) 1 0 (replicate 32 7) ∷ lookupAnswer (image1 0x7F) 1 0 id1 ∷ lookupAnswer (image1 0x81) 1 0 id1
+    ∷ lookupAnswer (image1 0x00) 1 0 id1 ∷ lookupAnswer (image1 0x80) 2 0 id1 ∷ []
+    ≡ given (foundAt 0) ∷ given unreached ∷ given unreached ∷ given unreached ∷ given absent ∷ refused 1 ∷ []
+unfolding lookingUp
+lookups = refl
+
+-- each case of the code's answers
+pub said : (map probedSaid (probed.Empty 1 2 ∷ probed.Tombstone 3 4 ∷ probed.PossibleHit 5 6 ∷ probed.Closed ∷ probed.Refused TableUnfit ∷ [])
+    ≡ given (emptyAt 1 2) ∷ given (tombstoneAt 3 4) ∷ given (hitAt 5 6) ∷ given closed ∷ refused 1 ∷ [])
+    × (map foundSaid (found.At 1 ∷ found.Absent ∷ found.Closed ∷ found.Refused TableUnfit ∷ []) ≡ given (foundAt 1) ∷ given absent ∷ given unreached ∷ refused 1 ∷ [])
+    × (map allocatedSaid (allocated.At 1 ∷ allocated.Refused PathCrowded ∷ allocated.Refused PathClosed ∷ []) ≡ given 1 ∷ refused 10 ∷ refused 11 ∷ [])
+said = (refl, refl, refl)
 
 -- a table that meets every premise of `found-after-allocation`: n=3, hash 0, tags 81 7F 00, of which bucket 1 is given; then its image, all pages
 -- zero, in which bucket 1 alone has the tag 80
