@@ -2,18 +2,27 @@
 use mathlib.Core.Path.{_≡_, refl, sym, ap, ap₂, _∙_}
 use Prim.Native.Nat.{ℕ}
 use native.Mathlib.Omega.{arith}
-use Rattle.answers.specs.Answers.{Answer, given, refused}
+use Rattle.answers.specs.Answers.{Answer, given, refused, outcomeSaid}
 use Rattle.answers.specs.Refusals.{numberOf}
-use Rattle.answers.proofs.Laws.{refusal-one, given-refused, refused-one, given-one}
-use Rattle.rehash.specs.Marker.{Counts, markerSaid}
+use Rattle.answers.proofs.Laws.{refusal-one, given-refused, refused-one, given-one, outcome-one}
+use Rattle.rehash.specs.Marker.{Counts, markerSaid, writeAnswer, writtenMarker}
 use Rattle.rehash.specs.Pending.{Left, tidy, updateMetaThenTidy, decisionSaid}
 use Rattle.rehash.specs.Growth.{Growth, done, nothingToDo, grownSaid}
+use Rattle.rehash.specs.declared.MarkerAnswer.{MarkerAnswer}
 use Rattle.rehash.specs.declared.MarkerRead.{MarkerRead}
 use Rattle.rehash.specs.declared.Decision.{Decision}
 use Rattle.rehash.specs.declared.Grown.{Grown}
 use Rattle.rehash.specs.declared.MarkerRead.the-variants as read
 use Rattle.rehash.specs.declared.Decision.the-variants as decision
 use Rattle.rehash.specs.declared.Grown.the-variants as grown
+
+-- two markers that a write promises
+pub one-written : (old new : ℕ) (r s : MarkerAnswer) → (outcomeSaid (r .outcome) ≡ writeAnswer old new) × (r .bytes ≡ writtenMarker old new)
+    → (outcomeSaid (s .outcome) ≡ writeAnswer old new) × (s .bytes ≡ writtenMarker old new) → r ≡ s
+one-written old new r s p q =
+    let o = outcome-one (r .outcome) (s .outcome) (p .0 ∙ sym (q .0)) in
+    let b = p .1 ∙ sym (q .1) in
+    λ j. record { outcome = o j; bytes = b j }
 
 pub one-marker : (r s : MarkerRead) → markerSaid r ≡ markerSaid s → r ≡ s
 one-marker (read.Is o n) (read.Is p m) e =

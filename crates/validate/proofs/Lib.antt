@@ -1,5 +1,6 @@
 pub mod Promises
 pub mod OneAnswer
+pub mod Examples
 pub mod Audits
 pub mod Passes
 pub mod Reaches
