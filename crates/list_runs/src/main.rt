@@ -3,6 +3,7 @@
 ghost use mathlib.Core.Path.{_≡_};
 ghost use Prim.Native.Nat.{_≤_};
 ghost use lib.ListN.{length};
+use answers::Number;
 
 const ALL: u64 = 0xffff_ffff_ffff_ffff;
 
@@ -22,6 +23,13 @@ fn buffer() -> [u8; 65537]
     ensures { λ r. ⌜ 65537 ≡ length r ⌝ }
 {
     [0; 65537]
+}
+
+// Room for the lines of any log: wal_list::LINES_SIZE.
+fn room() -> [u8; 262304]
+    ensures { λ r. ⌜ 262304 ≡ length r ⌝ }
+{
+    [0; 262304]
 }
 
 fn byte(log: &mut [u8], at: usize, b: u8) {
@@ -67,7 +75,11 @@ fn update(log: &mut [u8], at: usize, lo: u64, hi: u64, count: usize, bucket: u64
 fn show(title: &[u8], log: &[u8], n: usize) {
     io::write_all(1, title);
     if n <= log.len() {
-        wal_list::write_lines(1, &log[..n]);
+        let mut lines = room();
+        let r = wal_list::lines_into(&log[..n], &mut lines);
+        if let Number::Is(len) = r {
+            io::write_all(1, &lines[..len as usize]);
+        }
     }
 }
 

@@ -16,9 +16,18 @@ use Rattle.wal.specs.Reader.{Next, next, ended, stopped, startOf, nextAt, Readi
 use Rattle.wal_read.proofs.NextLaws.{start-long, next-past}
 use Rattle.wal_read.proofs.ReadLaws.{moves, clear-moves, update-moves, read-entry, read-end, read-stop}
 use Rattle.wal_list.specs.Lines.{ascii, decimal, startLine, entryLine, refusedLine, sizeOf, entryLines, stopLine, readingLines, startedLines, linesOf}
-use Rattle.wal_list.specs.Shown.{Shown, more, last, started, firstShown, nextShown, shownAt, textOf, on, over, saidOf, lineAnswer, andOn, linesIn}
+use Rattle.wal_list.specs.Shown.{Shown, more, last, started, firstShown, nextShown, shownAt, textOf, on, over, saidOf, lineAnswer}
 use Rattle.wal_list.proofs.Decimal.{decimal-length}
 use Rattle.wal_list.proofs.ShownLaws.{first-long, first-none, first-start, shown-next}
+
+-- the lines from a position on, one after the other, by a bound on how many follow
+abbrev pub andOn : Shown → (ℕ → List ℕ) → List ℕ
+andOn (more t p) rest = t ++ rest p
+andOn (last t) rest = t
+
+unfoldable pub linesIn : ℕ → List ℕ → ℕ → List ℕ
+linesIn zero log at = textOf (shownAt log at)
+linesIn (suc f) log at = andOn (shownAt log at) (linesIn f log)
 
 -- the position after an entry is its own and its size
 size-moves : (log : List ℕ) (at : ℕ) (e : Entry) (p : ℕ) → nextAt log at ≡ next e p → p ≡ at + sizeOf e
@@ -36,7 +45,7 @@ unfolding entryLines
 reading-stop at a = refl
 
 -- from the first entry on
-lines-from : (f : ℕ) (log : List ℕ) (at : ℕ) → (at ≡ 0 → ⊥) → length log ≤ at + f → linesIn f log at ≡ readingLines at (readFrom log at)
+pub lines-from : (f : ℕ) (log : List ℕ) (at : ℕ) → (at ≡ 0 → ⊥) → length log ≤ at + f → linesIn f log at ≡ readingLines at (readFrom log at)
 unfolding linesIn
 lines-from zero log at n h =
     let e = next-past log at (omega arith) in
@@ -55,15 +64,15 @@ lines-from (suc f) log at n h = go (nextAt log at) refl (lines-from f log)
 
 -- the definition, test by test
 module _ (log : List ℕ) where
-  lines-long : 65536 < length log → linesOf log ≡ refusedLine 0 2
+  pub lines-long : 65536 < length log → linesOf log ≡ refusedLine 0 2
   unfolding linesOf
   lines-long h = simp (lt-leb (length log) 65536 h)
 
-  lines-none : length log ≡ 0 → linesOf log ≡ ascii "empty\n"
+  pub lines-none : length log ≡ 0 → linesOf log ≡ ascii "empty\n"
   unfolding linesOf
   lines-none e = simp (le-leb (length log) 65536 (omega arith), eq-eqb (length log) 0 e)
 
-  lines-start : length log ≤ 65536 → (length log ≡ 0 → ⊥) → linesOf log ≡ startedLines (startOf log) log
+  pub lines-start : length log ≤ 65536 → (length log ≡ 0 → ⊥) → linesOf log ≡ startedLines (startOf log) log
   unfolding linesOf
   lines-start h n = simp (le-leb (length log) 65536 h, ne-eqb (length log) 0 n)
 
@@ -85,7 +94,7 @@ all-lines f log h = go (decLe (length log) 65536) (decLe (length log) 0) (startO
         ap (λ (x : Shown). andOn x (linesIn f log)) (first-start log p some ∙ ap started s) ∙ sym (lines-start log p some ∙ ap (λ (a : Answer ℕ). startedLines a log) s)
 
 -- ---- no line is longer than 80 bytes
-short-field : (at n : ℕ) (w : List ℕ) → length w ≤ 9 → length (decimal at ++ w ++ decimal n ++ ascii "\n") ≤ 80
+pub short-field : (at n : ℕ) (w : List ℕ) → length w ≤ 9 → length (decimal at ++ w ++ decimal n ++ ascii "\n") ≤ 80
 short-field at n w h =
     omega (arith, decimal-length at, decimal-length n, length-append (decimal at ++ w ++ decimal n) (ascii "\n"), length-append (decimal at ++ w) (decimal n), length-append (decimal at) w)
 
@@ -160,24 +169,3 @@ shown-leads log at t p h = go (eqb at 0) refl h
     go : (b : Bool) → eqb at 0 ≡ b → cond b (firstShown log) (nextShown (nextAt log at) at) ≡ more t p → Leads log at p
     go true e h = let m = first-leads log t p h in let z : at ≡ 0 = eqb-true at 0 e in record { on = omega arith; within = omega arith }
     go false e h = next-leads log at t p h
-
--- ---- so what a call says is within the buffer and leads on
-module _ (l log : List ℕ) (at n : ℕ) where
-  pub said-over : given (over n) ≡ lineAnswer l (shownAt log at) → n ≤ 80
-  said-over h = go (leb 80 (length l)) (shownAt log at) (text-short log at) h
-    where
-      go : (b : Bool) (s : Shown) → length (textOf s) ≤ 80 → given (over n) ≡ cond b (given (saidOf s)) (refused 2) → n ≤ 80
-      go true (more t p) k h = let z : _≡_ {A = ℕ} 0 1 = cc in absurd (omega arith)
-      go true (last t) k h = let e : n ≡ length t = cc in omega arith
-      go false s k h = let z : _≡_ {A = ℕ} 0 1 = cc in absurd (omega arith)
-
-  pub said-on : (p : ℕ) → given (on n p) ≡ lineAnswer l (shownAt log at) → (n ≤ 80) × Leads log at p
-  said-on p h = go (leb 80 (length l)) (shownAt log at) refl (text-short log at) h
-    where
-      go : (b : Bool) (s : Shown) → shownAt log at ≡ s → length (textOf s) ≤ 80 → given (on n p) ≡ cond b (given (saidOf s)) (refused 2) → (n ≤ 80) × Leads log at p
-      go true (more t q) i k h =
-          let e : n ≡ length t = cc in
-          let f : q ≡ p = cc in
-          (omega arith, shown-leads log at t p (i ∙ ap (more t) f))
-      go true (last t) i k h = let z : _≡_ {A = ℕ} 0 1 = cc in absurd (omega arith)
-      go false s i k h = let z : _≡_ {A = ℕ} 0 1 = cc in absurd (omega arith)

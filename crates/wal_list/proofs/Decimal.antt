@@ -35,6 +35,21 @@ digits-most (suc f) n = go (decLt n 10) (digits-most f (n / 10))
 pub decimal-length : (n : ℕ) → length (decimal n) ≤ 20
 decimal-length n = digits-most 20 n
 
+-- as many as the number has, where that is less than the bound
+digits-few : (f k n : ℕ) → n < 10 ^ suc k → length (digitsIn f n) ≤ suc k
+unfolding digitsIn
+digits-few zero k n h = omega arith
+digits-few (suc f) zero n h = omega (arith, ap length (digits-small f n (omega arith)))
+digits-few (suc f) (suc k) n h = go (decLt n 10) (digits-few f k (n / 10) (omega (arith, pow-suc 10 (suc k))))
+  where
+    go : Dec (n < 10) → length (digitsIn f (n / 10)) ≤ suc k → length (digitsIn (suc f) n) ≤ suc (suc k)
+    go (yes p) r = omega (arith, ap length (digits-small f n p))
+    go (no p) r = omega (arith, ap length (digits-large f n (omega arith)), length-append (digitsIn f (n / 10)) ((48 + n % 10) ∷ []))
+
+-- an offset has at most 5 digits
+pub offset-length : (n : ℕ) → n ≤ 65536 → length (decimal n) ≤ 5
+offset-length n h = digits-few 20 4 n (omega arith)
+
 -- ---- the digits that `io` spells: as many as are needed
 -- a number of k + 2 digits has k + 1 without the last
 fewer : (k n : ℕ) → Fewest 10 1 n (suc (suc k)) → (10 ≤ n) × Fewest 10 1 (n / 10) (suc k)

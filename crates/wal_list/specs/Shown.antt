@@ -1,7 +1,7 @@
 -- 01, 'Reading off a log': one line of `list` at a time, and how it goes on. Assumes nothing.
 use mathlib.Core.Bool.{cond}
-use mathlib.Core.List.{List, _++_}
-use Prim.Native.Nat.{ℕ, zero, suc}
+use mathlib.Core.List.{List}
+use Prim.Native.Nat.{ℕ, _+_, _*_}
 use lib.Dec.{leb, eqb}
 use lib.ListN.{length}
 use Rattle.answers.specs.Answers.{Answer, given, refused}
@@ -9,7 +9,7 @@ use Rattle.answers.specs.Refusals.{numberOf}
 use Rattle.blocks.specs.Blocks.{put}
 use Rattle.wal.specs.Log.{startSize}
 use Rattle.wal.specs.Reader.{Next, next, ended, stopped, startOf, nextAt}
-use Rattle.wal_list.specs.Lines.{ascii, startLine, entryLine, endLine, refusedLine, most}
+use Rattle.wal_list.specs.Lines.{ascii, startLine, entryLine, endLine, refusedLine, most, linesOf}
 use Rattle.wal_list.specs.declared.Line.{Line}
 use Rattle.wal_list.specs.declared.Line.the-variants as line
 
@@ -66,11 +66,13 @@ lineAnswer buffer s = cond (leb 80 (length buffer)) (given (saidOf s)) (refused 
 abbrev pub lineAfter : List ℕ → Shown → List ℕ
 lineAfter buffer s = cond (leb 80 (length buffer)) (put buffer 0 (textOf s)) buffer
 
--- the lines from a position on, one after the other, by a bound on how many follow
-abbrev pub andOn : Shown → (ℕ → List ℕ) → List ℕ
-andOn (more t p) rest = t ++ rest p
-andOn (last t) rest = t
+-- the lines of any log fit, with room for one line more; 2 where the memory is shorter, which then stays
+abbrev pub linesSize : ℕ
+linesSize = 4 * most + 160
 
-unfoldable pub linesIn : ℕ → List ℕ → ℕ → List ℕ
-linesIn zero log at = textOf (shownAt log at)
-linesIn (suc f) log at = andOn (shownAt log at) (linesIn f log)
+abbrev pub linesAnswer : List ℕ → List ℕ → Answer ℕ
+linesAnswer out log = cond (leb linesSize (length out)) (given (length (linesOf log))) (refused 2)
+
+-- the lines at the start, and every byte after them as it was
+abbrev pub linesAfter : List ℕ → List ℕ → List ℕ
+linesAfter out log = cond (leb linesSize (length out)) (put out 0 (linesOf log)) out

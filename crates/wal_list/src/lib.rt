@@ -1,4 +1,4 @@
-// Reading off a log: the lines of the program `list`. `line_at` makes one line, `write_lines` writes all.
+// Reading off a log: the lines of the program `list`. `line_at` makes one line, `lines_into` all of them.
 ghost use mathlib.Core.Path.{_≡_};
 ghost use mathlib.Core.List.{_++_};
 ghost use Prim.Native.Nat.{_+_, _≤_};
@@ -6,7 +6,7 @@ ghost use lib.ListN.{length};
 ghost use Rattle.answers.specs.Answers.{given, numberSaid};
 ghost use Rattle.blocks.specs.Blocks.{put};
 ghost use Rattle.wal_list.specs.Lines.{ascii, decimal, endLine};
-ghost use Rattle.wal_list.specs.Shown.{firstShown, shownAt, textOf, saidOf, lineSaid, lineAnswer, lineAfter, refusalOf};
+ghost use Rattle.wal_list.specs.Shown.{firstShown, shownAt, textOf, saidOf, lineSaid, lineAnswer, lineAfter, refusalOf, linesAnswer, linesAfter};
 use answers::Number;
 use answers::Refusal;
 use wal_read::Head;
@@ -16,6 +16,9 @@ pub const MOST: usize = 65536;
 
 // No line is longer.
 pub const LINE_SIZE: usize = 80;
+
+// The lines of any log fit: at most four bytes for each of its bytes and a line, and room for one line more.
+pub const LINES_SIZE: usize = 4 * MOST + 2 * LINE_SIZE;
 
 // The bytes of the line that was filled in, and the position of the record that has the next one.
 pub enum Line {
@@ -154,25 +157,26 @@ pub fn line_at(log: &[u8], at: usize, line: &mut [u8]) -> Line
     Line::More { len, next }
 }
 
-// Writes the lines of a log, one after the other, and stops where the file takes no more. It has no answer of
-// its own: which lines there are is `line_at`'s promise, and what reaches the file is the system's.
-pub fn write_lines(fd: i32, log: &[u8])
-    ensures { λ r. ⌜ r ≡ tt ⌝ }
+// Puts the lines of a log at the start of `out`, one after the other, and answers how many bytes they are; every
+// byte after them stays. Memory shorter than LINES_SIZE is refused with 2 and left alone.
+pub fn lines_into(log: &[u8], out: &mut [u8]) -> Number
+    ensures { λ r. ⌜ (numberSaid r ≡ linesAnswer (now (out .entry)) (now (log .entry))) × (now (out .exit) ≡ linesAfter (now (out .entry)) (now (log .entry))) ⌝ }
 {
-    let mut line = [0u8; LINE_SIZE];
+    if out.len() < LINES_SIZE {
+        return Number::Refused(Refusal::LengthUnfit);
+    }
+    let mut done = 0;
     let mut at = 0;
     loop {
-        let shown = line_at(log, at, &mut line);
+        let shown = line_at(log, at, &mut out[done..]);
         if let Line::Last { len } = shown {
-            io::write_all(fd, &line[..len]);
-            return;
+            return Number::Is((done + len) as u64);
         }
+        // there is room for each line, so no other answer comes
         let Line::More { len, next } = shown else {
-            return;
+            return Number::Refused(Refusal::LengthUnfit);
         };
-        if !io::write_all(fd, &line[..len]) {
-            return;
-        }
+        done += len;
         at = next;
     }
 }
