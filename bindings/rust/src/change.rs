@@ -7,7 +7,7 @@ use crate::{
     refusal::said,
     Refusal,
 };
-use std::{error::Error, fmt};
+use core::{error::Error, fmt};
 
 /// What a cell holds that has no bucket yet.
 pub const UNSET: u64 = u64::MAX;
@@ -17,7 +17,8 @@ pub const UNSET: u64 = u64::MAX;
 pub enum Where {
     /// The page is in this bucket.
     Known(u64),
-    /// The page is new, and nobody asks for its bucket.
+    /// The page is new, and no other change depends on its bucket. The log tells it after the sync: entry i
+    /// is that of change i.
     Fresh,
     /// The bucket is in the lent cell of this index; if the cell is unset the page is new, and the cell gets
     /// its bucket.

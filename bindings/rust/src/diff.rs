@@ -1,7 +1,7 @@
 //! The slots of a page that changed.
 
 use crate::{ffi, log::position, refusal::said, Refusal};
-use std::fmt;
+use core::fmt;
 
 /// The slots of a page.
 pub const SLOTS: usize = 126;

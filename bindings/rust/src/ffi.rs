@@ -467,7 +467,7 @@ pub(crate) fn audit(image: &[u8], n: usize, hashes: &[u64]) -> Audited {
 mod layout {
     use super::*;
     use crate::change::Place;
-    use std::mem::{align_of, offset_of, size_of};
+    use core::mem::{align_of, offset_of, size_of};
 
     // The size and alignment of a struct, and the offset of each field, in the boundary's order.
     macro_rules! laid_out {

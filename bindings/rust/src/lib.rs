@@ -8,17 +8,21 @@
 //!
 //! Files, threads and the page hash stay with the caller: memory is lent as slices, a page's hash
 //! arrives as a number. The library keeps nothing between calls, so calls on separate memory may run in
-//! separate threads.
+//! separate threads, and so may calls that only read the same memory. The crate needs neither `std` nor
+//! `alloc`.
 //!
-//! - A **table image** of n buckets has `tag_pages(n)` tag pages and then n data pages, each of
-//!   [`PAGE`] bytes; bucket b is page `tag_pages(n) + b`. [`lookup`], [`replay`], [`grow`] and [`audit`]
-//!   are lent images.
+//! - A **page** is [`PAGE`] bytes: bytes 0 to 4,031 are [`SLOTS`] slots of [`NODE`] bytes; bytes 4,032 to
+//!   4,055 belong to nobody, and no log holds them; bytes 4,056 to 4,063 are its elided children; bytes
+//!   4,064 to 4,095 are its id.
+//! - A **table image** of n buckets, 1 to [`MOST_BUCKETS`], has `tag_pages(n)` tag pages and then n data
+//!   pages; bucket b is page `tag_pages(n) + b`. [`lookup`], [`replay`], [`grow`] and [`audit`] are lent
+//!   images.
 //! - **Tags** are the tag pages alone, one byte per bucket, as a service keeps them in memory.
 //!   [`probe`], [`allocate`], [`sync`] and the functions of single tags are lent these.
-//! - A **log** is what a sync writes and a replay reads: [`Reader`], [`LogWriter`].
+//! - A **log** is what a sync writes and a replay reads: [`Reader`], [`LogWriter`]. It says which sync it is
+//!   of, by a number, and not of which store.
 //!
-//! docs/GUIDE.md in the repository has a sync and a recovery with files from start to end, and what to do
-//! about each refusal.
+//! The [`guide`] has a sync and a recovery with files from start to end, and what to do about each refusal.
 //!
 //! ```
 //! use bitbox::{sync, Change, Diff, Lent, Where, Writer, PAGE, UNSET};
@@ -38,6 +42,7 @@
 //! # Ok(())
 //! # }
 //! ```
+#![no_std]
 #![deny(missing_docs, unsafe_code)]
 #![warn(unreachable_pub)]
 #![cfg_attr(
@@ -68,8 +73,8 @@ pub use change::{sync, sync_step, Change, Lent, State, Step, SyncRefused, Synced
 pub use diff::{Diff, Node, Packed, NODE, SLOTS};
 pub use growth::{grow, pending, read_marker, write_marker, Grown, Marker, Pending};
 pub use log::{
-    read_entry, read_head, see_entry, Elided, Entry, EntryRef, Head, LogWriter, PageId, Reader, Update, UpdateRef,
-    Writer, FIRST_ENTRY,
+    read_entry, read_head, see_entry, Elided, Entries, Entry, EntryRef, Head, LogWriter, PageId, Reader, Update,
+    UpdateRef, Writer, FIRST_ENTRY,
 };
 pub use path::{allocate, lookup, probe, Found, Probed};
 pub use recover::{replay, replay_step, Replayed, Stepped};
@@ -80,7 +85,7 @@ pub use table::{
 };
 pub use validate::{audit, Audit};
 
-/// The guide, whose code the tests run.
-#[cfg(doctest)]
+/// The repository's docs/GUIDE.md, whose code the tests run. Its links are to files of the repository.
+#[cfg(any(doc, doctest))]
 #[doc = include_str!("../../../docs/GUIDE.md")]
-struct Guide;
+pub mod guide {}

@@ -6,7 +6,7 @@ use crate::{
     refusal::said,
     Refusal,
 };
-use std::iter::FusedIterator;
+use core::iter::FusedIterator;
 
 /// A page's id: the last 32 bytes of the page.
 pub type PageId = [u8; 32];
@@ -46,6 +46,16 @@ pub enum Entry {
     Update(Update),
     /// The log is over.
     End,
+}
+
+impl Entry {
+    /// The bucket that it names; the end names none.
+    pub const fn bucket(&self) -> Option<u64> {
+        match self {
+            Entry::Clear { bucket } | Entry::Update(Update { bucket, .. }) => Some(*bucket),
+            Entry::End => None,
+        }
+    }
 }
 
 /// The entry that stands at a position of a log, and where the next one stands; after the end stands the
@@ -139,7 +149,7 @@ impl<'a> UpdateRef<'a> {
         let (id, rest) = rest.split_first_chunk()?;
         let (lo, rest) = rest.split_first_chunk()?;
         let (hi, rest) = rest.split_first_chunk()?;
-        let (nodes, rest) = rest.split_at_checked(NODE * count)?;
+        let (nodes, rest) = rest.split_at_checked(NODE.checked_mul(count)?)?;
         let elided = rest.first_chunk()?;
         let diff = Diff::from_words([u64::from_le_bytes(*lo), u64::from_le_bytes(*hi)]);
         Some(UpdateRef { bucket, id, diff, elided, nodes })
@@ -158,6 +168,16 @@ pub enum EntryRef<'a> {
     Update(UpdateRef<'a>),
     /// The log is over.
     End,
+}
+
+impl EntryRef<'_> {
+    /// The bucket that it names; the end names none.
+    pub const fn bucket(&self) -> Option<u64> {
+        match self {
+            EntryRef::Clear { bucket } | EntryRef::Update(UpdateRef { bucket, .. }) => Some(*bucket),
+            EntryRef::End => None,
+        }
+    }
 }
 
 /// What [`read_entry`] gives, lent out of the log and not copied: the faster way.
@@ -185,7 +205,8 @@ pub(crate) fn position(at: u64) -> usize {
 /// A reader of a lent log.
 ///
 /// As an iterator it gives the clears and updates and ends after the last; a refusal is given once and
-/// ends it too. [`Reader::read_entry`] gives the end as an entry.
+/// ends it too. [`Reader::entries`] does so and copies nothing. [`Reader::read_entry`] gives the end as an
+/// entry.
 ///
 /// ```
 /// use bitbox::{Entry, LogWriter, Reader};
@@ -255,6 +276,37 @@ impl<'a> Reader<'a> {
         self.at = next;
         Ok(entry)
     }
+
+    /// The same, lent out of the log and not copied.
+    ///
+    /// # Errors
+    ///
+    /// Those of the function [`read_entry`].
+    pub fn see_entry(&mut self) -> Result<EntryRef<'a>, Refusal> {
+        let (entry, next) = see_entry(self.log, self.at)?;
+        self.at = next;
+        Ok(entry)
+    }
+
+    /// The clears and updates from here on, lent out of the log: nothing of them is copied.
+    ///
+    /// ```
+    /// use bitbox::{LogWriter, Reader};
+    ///
+    /// # fn main() -> Result<(), bitbox::Refusal> {
+    /// let mut memory = [0; 4096];
+    /// let mut writer = LogWriter::begin(&mut memory, 7)?;
+    /// writer.write_clear(3)?;
+    /// writer.write_clear(5)?;
+    /// let buckets: Result<Vec<_>, _> =
+    ///     Reader::new(writer.finish()?)?.entries().map(|entry| entry.map(|e| e.bucket())).collect();
+    /// assert_eq!(buckets?, [Some(3), Some(5)]);
+    /// # Ok(())
+    /// # }
+    /// ```
+    pub const fn entries(self) -> Entries<'a> {
+        Entries { reader: self }
+    }
 }
 
 impl Iterator for Reader<'_> {
@@ -274,6 +326,30 @@ impl Iterator for Reader<'_> {
 }
 
 impl FusedIterator for Reader<'_> {}
+
+/// The entries of a log, lent out of it: an iterator as [`Reader`] is one, that copies nothing.
+#[derive(Clone, Debug)]
+pub struct Entries<'a> {
+    reader: Reader<'a>,
+}
+
+impl<'a> Iterator for Entries<'a> {
+    type Item = Result<EntryRef<'a>, Refusal>;
+
+    fn next(&mut self) -> Option<Self::Item> {
+        if self.reader.over {
+            return None;
+        }
+        let entry = self.reader.see_entry();
+        self.reader.over = matches!(entry, Ok(EntryRef::End) | Err(_));
+        match entry {
+            Ok(EntryRef::End) => None,
+            entry => Some(entry),
+        }
+    }
+}
+
+impl FusedIterator for Entries<'_> {}
 
 /// A writer's state, for logs that are written into lent memory call by call. Each call moves it on; a
 /// refused one leaves it.

@@ -7,7 +7,7 @@ use crate::{ffi, log::position, refusal::said, Refusal};
 pub enum Replayed {
     /// The log is empty: nothing was to be done.
     Nothing,
-    /// The log is of another sync: the image is as it was.
+    /// The log has another sync number: the image is as it was.
     Stale,
     /// The log is in the image.
     Applied,
@@ -16,6 +16,9 @@ pub enum Replayed {
 /// Takes a log into a table's image. The whole log is read before the image is touched. Wherever a replay
 /// stops, another one from there ends in the same image. `hashes` has the hash of each update's page, in
 /// the log's order.
+///
+/// Only the sync number says that the log is this table's: one of another store with the same number is taken
+/// too. The guide says what to do about it.
 ///
 /// ```
 /// use bitbox::*;

@@ -1,23 +1,29 @@
 //! Why a call did not do what was asked.
 
-use std::{error::Error, fmt};
+use core::{error::Error, fmt};
 
 macro_rules! refusals {
     ($($number:literal $name:ident $says:literal;)*) => {
         /// Why a call did not do what was asked.
         ///
-        /// Each refusal has a number, which does not change, a name, and a sentence for a person.
+        /// Each refusal has a number, which does not change, a name, and a sentence for a person. A later version
+        /// may have more of them.
         #[derive(Clone, Copy, Debug, PartialEq, Eq, PartialOrd, Ord, Hash)]
-        #[repr(u8)]
+        #[non_exhaustive]
         pub enum Refusal {
-            $(#[doc = $says] $name = $number,)*
+            $(#[doc = $says] $name,)*
+            /// A number that this crate has no name for, which its library does not give; 255 stands for all that
+            /// a byte does not hold.
+            Unknown(u8),
         }
 
         impl Refusal {
-            /// All refusals, by rising number.
-            pub const ALL: [Refusal; 24] = [$(Refusal::$name),*];
+            /// Every refusal that has a name, by rising number.
+            pub fn all() -> impl DoubleEndedIterator<Item = Refusal> + ExactSizeIterator + Clone {
+                [$(Refusal::$name),*].into_iter()
+            }
 
-            /// The refusal with a number, if there is one.
+            /// The refusal with a number, if it has a name.
             pub const fn from_number(number: u8) -> Option<Refusal> {
                 match number {
                     $($number => Some(Refusal::$name),)*
@@ -25,10 +31,19 @@ macro_rules! refusals {
                 }
             }
 
+            /// The refusal's number.
+            pub const fn number(self) -> u8 {
+                match self {
+                    $(Refusal::$name => $number,)*
+                    Refusal::Unknown(number) => number,
+                }
+            }
+
             /// The refusal's name.
             pub const fn name(self) -> &'static str {
                 match self {
                     $(Refusal::$name => stringify!($name),)*
+                    Refusal::Unknown(_) => "Unknown",
                 }
             }
 
@@ -36,6 +51,7 @@ macro_rules! refusals {
             pub const fn explanation(self) -> &'static str {
                 match self {
                     $(Refusal::$name => $says,)*
+                    Refusal::Unknown(_) => "The library gives a number that this crate has no name for.",
                 }
             }
         }
@@ -69,13 +85,6 @@ refusals! {
     24 NotReached "A page's path never comes to its bucket.";
 }
 
-impl Refusal {
-    /// The refusal's number, 1 to 24.
-    pub const fn number(self) -> u8 {
-        self as u8
-    }
-}
-
 impl fmt::Display for Refusal {
     fn fmt(&self, f: &mut fmt::Formatter<'_>) -> fmt::Result {
         write!(f, "{} (refusal {}, {})", self.explanation(), self.number(), self.name())
@@ -84,14 +93,12 @@ impl fmt::Display for Refusal {
 
 impl Error for Refusal {}
 
-/// What the boundary's number says: nothing for 0, else the refusal. That it is at most 24 is proved; any
-/// other is taken as the last one, as the boundary itself takes a kind that it has no case for, so that
-/// nothing here can stop the caller.
+/// What the boundary's number says: nothing for 0, else the refusal. That it is at most 24 is proved, and the
+/// build links no library of another version; any other is kept as it is, and nothing here stops the caller.
 pub(crate) fn said(number: u64) -> Result<(), Refusal> {
-    match u8::try_from(number) {
-        Ok(0) => Ok(()),
-        Ok(number) => Err(Refusal::from_number(number).unwrap_or(Refusal::NotReached)),
-        Err(_) => Err(Refusal::NotReached),
+    match u8::try_from(number).unwrap_or(u8::MAX) {
+        0 => Ok(()),
+        number => Err(Refusal::from_number(number).unwrap_or(Refusal::Unknown(number))),
     }
 }
 
@@ -102,11 +109,12 @@ mod tests {
     #[test]
     fn a_number_from_the_boundary() {
         assert_eq!(said(0), Ok(()));
-        for refusal in Refusal::ALL {
-            assert_eq!(said(refusal.number() as u64), Err(refusal));
+        for refusal in Refusal::all() {
+            assert_eq!(said(refusal.number().into()), Err(refusal));
         }
-        for other in [25, 255, 256, 257, u64::MAX] {
-            assert_eq!(said(other), Err(Refusal::NotReached));
+        for (other, kept) in [(25, 25), (255, 255), (256, 255), (257, 255), (u64::MAX, 255)] {
+            assert_eq!(said(other), Err(Refusal::Unknown(kept)));
+            assert_eq!(Refusal::Unknown(kept).number(), kept);
         }
     }
 }

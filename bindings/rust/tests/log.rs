@@ -36,6 +36,13 @@ fn a_log_is_written_and_read() {
     }
     let all: Vec<_> = Reader::new(&log).expect("a log").collect();
     assert_eq!(all, [Ok(Entry::Clear { bucket: 3 }), Ok(Entry::Update(update(9, &[2, 125])))]);
+    let lent: Vec<_> = Reader::new(&log).expect("a log").entries().map(|e| e.expect("an entry")).collect();
+    assert_eq!(lent, [see_entry(&log, 5), see_entry(&log, 14)].map(|e| e.expect("an entry").0));
+    let buckets = |e: &Result<Entry, Refusal>| e.as_ref().ok().and_then(Entry::bucket);
+    assert_eq!(all.iter().map(buckets).collect::<Vec<_>>(), [Some(3), Some(9)]);
+    assert_eq!(lent.iter().map(EntryRef::bucket).collect::<Vec<_>>(), [Some(3), Some(9)]);
+    assert_eq!((Entry::End.bucket(), EntryRef::End.bucket()), (None, None));
+    assert_eq!(reader.see_entry(), Ok(EntryRef::End));
     assert_eq!(read_entry(&log, 5), Ok((Entry::Clear { bucket: 3 }, 14)));
     assert_eq!(read_entry(&log, 143), Ok((Entry::End, 143)));
     assert_eq!(read_head(&log, 5), Ok(Head::Clear { bucket: 3, next: 14 }));
@@ -84,6 +91,9 @@ fn reading_refuses_and_stays() {
         let all: Vec<_> = Reader::new(log).expect("a start").collect();
         assert_eq!(all.len(), entries + 1, "the refusal is given once and ends it");
         assert_eq!(all.last(), Some(&Err(why)));
+        let mut lent = Reader::new(log).expect("a start").entries();
+        assert_eq!(lent.by_ref().count(), entries + 1, "as is one of entries that are lent");
+        assert_eq!(lent.next(), None);
     }
     for at in [PAGE, PAGE + 1, usize::MAX] {
         assert_eq!(read_entry(&good, at), Err(LogCut), "at {at}");
