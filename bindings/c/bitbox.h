@@ -1,14 +1,21 @@
 /* A hash table of tree pages on disk, proved: the functions of libbitbox.a, for x86-64.
  *
- * Every call on every input ends with an answer. A slice is a pointer and then its length in elements; a
- * length of 0 goes with any pointer but NULL. All that a caller has to see to is that pointers and lengths
- * are true, and that nobody else writes what is lent. The library keeps nothing between calls, so calls on
- * separate memory may run in separate threads.
+ * Every call on every input ends with an answer. A slice is a pointer and then its length in elements; with
+ * length 0 the pointer may be NULL. What a caller has to see to:
+ *   - pointers and lengths are true;
+ *   - pointers to uint64_t and to structs are aligned to 8 bytes, as C has them; bytes may stand anywhere;
+ *   - what a call may write (a pointer without const) overlaps nothing else that is lent to it;
+ *   - nobody else writes what is lent, or reads what the call may write, while it runs.
+ * The library keeps nothing between calls, so calls on separate memory may run in separate threads, and so may
+ * calls that only read the same memory.
  *
- * An answer begins with `refusal`: 0, or the number of the reason for which nothing was done
- * (BITBOX_... below; docs/ANSWERS.md has a sentence on each). A refused call leaves all that it was lent,
- * but for two: bitbox_grow refused with 10 or 11 leaves the new image all zero, and a bitbox_sync refused
- * at a change keeps what the changes before it did.
+ * An answer begins with `refusal`: 0, or the number of the reason for which nothing was done (BITBOX_... below;
+ * bitbox_refusal_name gives its name, docs/ANSWERS.md has a sentence on each). Fields that have no value are 0.
+ * A refused call leaves all that it was lent, but for two: bitbox_grow refused with 10 or 11 leaves the new image
+ * all zero, and bitbox_sync refused at a change keeps what it did before that (see there).
+ *
+ * A page is 4,096 bytes: 126 slots of 32 bytes; bytes 4,032 to 4,055, which belong to nobody and stand in no log;
+ * 8 bytes of elided children; 32 bytes of id. A table has at most 1,048,576 buckets.
  */
 #ifndef BITBOX_H
 #define BITBOX_H
@@ -20,6 +27,9 @@
 #ifdef __cplusplus
 extern "C" {
 #endif
+
+#define BITBOX_VERSION "0.2.0"
+#define BITBOX_VERSION_NUMBER 200 /* 10,000 for the first number, 100 for the second */
 
 #define BITBOX_PAGE 4096         /* bytes of a page */
 #define BITBOX_SLOTS 126         /* slots of a page */
@@ -56,6 +66,39 @@ enum {
     BITBOX_EMPTY_FIRST = 23,     /* a page's path meets an empty bucket before its own */
     BITBOX_NOT_REACHED = 24      /* a page's path never comes to its bucket */
 };
+
+/* The name of a refusal as docs/ANSWERS.md has it, "Done" for 0; "Unknown" for a number that is none. */
+static inline const char *bitbox_refusal_name(uint64_t refusal)
+{
+    switch (refusal) {
+    case BITBOX_DONE: return "Done";
+    case BITBOX_TABLE_UNFIT: return "TableUnfit";
+    case BITBOX_LENGTH_UNFIT: return "LengthUnfit";
+    case BITBOX_SLOT_UNFIT: return "SlotUnfit";
+    case BITBOX_DIFF_RESERVED: return "DiffReserved";
+    case BITBOX_LOG_NOT_PAGES: return "LogNotPages";
+    case BITBOX_LOG_CUT: return "LogCut";
+    case BITBOX_NO_START: return "NoStart";
+    case BITBOX_TAG_UNKNOWN: return "TagUnknown";
+    case BITBOX_BUCKET_OUTSIDE: return "BucketOutside";
+    case BITBOX_PATH_CROWDED: return "PathCrowded";
+    case BITBOX_PATH_CLOSED: return "PathClosed";
+    case BITBOX_WRITER_NOT_OPEN: return "WriterNotOpen";
+    case BITBOX_NO_ROOM: return "NoRoom";
+    case BITBOX_BUCKET_UNFIT: return "BucketUnfit";
+    case BITBOX_MARKER_LENGTH: return "MarkerLength";
+    case BITBOX_MARKER_MAGIC: return "MarkerMagic";
+    case BITBOX_MARKER_ORDER: return "MarkerOrder";
+    case BITBOX_NOTHING_PENDING: return "NothingPending";
+    case BITBOX_WOULD_SHRINK: return "WouldShrink";
+    case BITBOX_PADDING_USED: return "PaddingUsed";
+    case BITBOX_LABEL_TWICE: return "LabelTwice";
+    case BITBOX_TAG_WRONG: return "TagWrong";
+    case BITBOX_EMPTY_FIRST: return "EmptyFirst";
+    case BITBOX_NOT_REACHED: return "NotReached";
+    default: return "Unknown";
+    }
+}
 
 /* What `kind` and `value` say. */
 enum { BITBOX_PROBED_EMPTY = 0, BITBOX_PROBED_TOMBSTONE = 1, BITBOX_PROBED_HIT = 2, BITBOX_PROBED_CLOSED = 3 };
@@ -128,7 +171,8 @@ typedef struct {
     uint64_t bucket;
 } bitbox_found;
 
-/* An entry of a log: BITBOX_ENTRY_..., its bucket, where the next stands; what an update has. */
+/* An entry of a log: BITBOX_ENTRY_..., its bucket, where the next stands (at the end and where it is refused, the
+ * position that was asked for); what an update has. */
 typedef struct {
     uint64_t refusal;
     uint64_t kind;
@@ -140,7 +184,8 @@ typedef struct {
     uint8_t elided[8];
 } bitbox_entry;
 
-/* An entry seen without its fields: BITBOX_ENTRY_..., its bucket, its nodes, where the next stands. */
+/* An entry seen without its fields: BITBOX_ENTRY_..., its bucket, its nodes, where the next stands (at the end and
+ * where it is refused, 0). */
 typedef struct {
     uint64_t refusal;
     uint64_t kind;
@@ -149,7 +194,7 @@ typedef struct {
     uint64_t next;
 } bitbox_head;
 
-/* A writer's state: BITBOX_WRITER_..., the position or the finished log's length. */
+/* A writer's state: BITBOX_WRITER_..., the position or the finished log's length. A kind above 2 is finished too. */
 typedef struct {
     uint64_t kind;
     uint64_t at;
@@ -162,7 +207,7 @@ typedef struct {
     bitbox_writer_state writer;
 } bitbox_written;
 
-/* The state of a sync that is made step by step. */
+/* The state of a sync that is made step by step: buckets of the table, the log's writer, full buckets. */
 typedef struct {
     uint64_t n;
     bitbox_writer_state writer;
@@ -187,7 +232,8 @@ typedef struct {
     bitbox_writer_state writer;
 } bitbox_sync_answer;
 
-/* What a step of replay comes to: BITBOX_STEP_..., where the next entry stands. */
+/* What a step of replay comes to: BITBOX_STEP_..., where the next entry stands (at the end and where it is refused,
+ * 0). */
 typedef struct {
     uint64_t refusal;
     uint64_t kind;
@@ -238,8 +284,8 @@ bitbox_pack_answer bitbox_pack(uint64_t lo, uint64_t hi, const uint8_t *page, si
 /* The same into 126 * 32 lent bytes: the nodes and zeros after them; their count. 2, 4, 2. */
 bitbox_answer bitbox_pack_into(uint64_t lo, uint64_t hi, const uint8_t *page, size_t page_len, uint8_t *nodes,
                                size_t nodes_len);
-/* Puts nodes at the marked slots. 2, 4, 2. */
-bitbox_answer bitbox_unpack(uint64_t lo, uint64_t hi, const uint8_t nodes[126][32], size_t count, uint8_t *page,
+/* Puts nodes at the marked slots; `nodes` points to 126 * 32 bytes, as packed.nodes[0] does. 2, 4, 2. */
+bitbox_answer bitbox_unpack(uint64_t lo, uint64_t hi, const uint8_t *nodes, size_t count, uint8_t *page,
                             size_t page_len);
 
 /* ---- tags, lengths, page numbers; `tags` are the tag pages of a table of n buckets */
@@ -292,20 +338,25 @@ bitbox_head bitbox_reader_head(const uint8_t *log, size_t log_len, size_t at);
 bitbox_written bitbox_begin(uint8_t *log, size_t log_len, bitbox_writer_state w, uint32_t sync_seqn);
 /* Writes that a bucket is cleared. 12, 13. */
 bitbox_written bitbox_write_clear(uint8_t *log, size_t log_len, bitbox_writer_state w, uint64_t bucket);
-/* Writes that a page is changed. 12, 2, 4, 13. */
+/* Writes that a page is changed; `nodes` points to 126 * 32 bytes, as packed.nodes[0] does. 12, 2, 4, 13. */
 bitbox_written bitbox_write_update(uint8_t *log, size_t log_len, bitbox_writer_state w, const uint8_t id[32],
-                                   uint64_t lo, uint64_t hi, const uint8_t nodes[126][32], size_t count,
+                                   uint64_t lo, uint64_t hi, const uint8_t *nodes, size_t count,
                                    const uint8_t elided[8], uint64_t bucket);
 /* Finishes the log. 12, 13. */
 bitbox_written bitbox_finish(uint8_t *log, size_t log_len, bitbox_writer_state w);
 
 /* ---- sync; `marks` has a byte for each tag page, `cells` buckets that changes share */
 
-/* One change. 1, 2, 12, then 4, 2, 9, 14, 13, 10 or 11. */
+/* One change, with its page. Of a sync by steps the caller first zeroes the marks, begins the log (bitbox_begin)
+ * and counts the full buckets (bitbox_full_count) into the state, and last finishes the log (bitbox_finish).
+ * 1, 2, 12, then 4, 2, 9, 14, 13, 10 or 11. */
 bitbox_step_answer bitbox_sync_step(uint8_t *tags, size_t tags_len, uint8_t *marks, size_t marks_len, uint64_t *cells,
                                     size_t cells_len, uint8_t *log, size_t log_len, const uint8_t *page,
                                     size_t page_len, bitbox_change c, bitbox_step_state st);
-/* A list of changes, with a page for each. 1, 2, 13; at a change 4, 2, 9, 14, 13, 10 or 11. */
+/* A list of changes, with a page for each. Refused at a change, it leaves in tags, cells and log what the changes
+ * before it did, the log's start record with them; the marks are zeroed but for those of these changes; and the
+ * writer is fresh: try again on copies of tags and cells that were made before. 1, 2, 13; at a change 4, 2, 9, 14,
+ * 13, 10 or 11. */
 bitbox_sync_answer bitbox_sync(uint8_t *tags, size_t tags_len, uint8_t *marks, size_t marks_len, uint64_t *cells,
                                size_t cells_len, uint8_t *log, size_t log_len, const uint8_t *pages,
                                size_t pages_len, const bitbox_change *changes, size_t changes_len, size_t n,

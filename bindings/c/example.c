@@ -1,5 +1,6 @@
 /* A sync of two new pages; power fails while the table is written out; the log is replayed onto the older
- * image, and the pages are looked up and audited. */
+ * image, and the pages are looked up and audited. Then nodes are packed out of a page, written into a log, read
+ * back and put into another page. */
 #include "bitbox.h"
 #include <stdio.h>
 #include <string.h>
@@ -19,15 +20,42 @@ static uint8_t image[LENGTH];  /* the table as it stands on disk */
 static uint8_t log_[2 * BITBOX_PAGE];
 static uint8_t pages[2 * BITBOX_PAGE];
 
+/* The nodes of a page's marked slots, into a log and out of it. Answers 0 or the first refusal. */
+static uint64_t nodes_there_and_back(const bitbox_change *change, const uint8_t *page)
+{
+    uint64_t lo = change->diff.words[0], hi = change->diff.words[1];
+    bitbox_pack_answer packed = bitbox_pack(lo, hi, page, BITBOX_PAGE);
+    bitbox_writer_state fresh = {BITBOX_WRITER_FRESH, 0};
+    bitbox_written w = bitbox_begin(log_, sizeof log_, fresh, 9);
+    if (packed.refusal == 0 && w.refusal == 0)
+        w = bitbox_write_update(log_, sizeof log_, w.writer, change->id, lo, hi, packed.packed.nodes[0],
+                                packed.packed.count, page + BITBOX_PAGE - 40, 5);
+    if (w.refusal == 0)
+        w = bitbox_finish(log_, sizeof log_, w.writer);
+    if (packed.refusal != 0 || w.refusal != 0)
+        return packed.refusal != 0 ? packed.refusal : w.refusal;
+
+    static uint8_t other[BITBOX_PAGE];
+    bitbox_entry e = bitbox_reader_next(log_, w.length, BITBOX_FIRST_ENTRY);
+    bitbox_answer put = bitbox_unpack(e.diff.words[0], e.diff.words[1], e.packed.nodes[0], e.packed.count, other,
+                                      sizeof other);
+    if (e.refusal != 0 || put.refusal != 0)
+        return e.refusal != 0 ? e.refusal : put.refusal;
+    printf("packed %zu nodes, logged and put into another page: slot 125 is %s\n", packed.packed.count,
+           memcmp(other + 125 * BITBOX_NODE, page + 125 * BITBOX_NODE, BITBOX_NODE) == 0 ? "the same" : "another");
+    return bitbox_unpack(lo, hi, e.packed.nodes[0], 1, other, sizeof other).refusal;
+}
+
 int main(void)
 {
+    printf("bitbox %s\n", BITBOX_VERSION);
     printf("table of %d buckets: %llu bytes\n", N, (unsigned long long)bitbox_table_length(N).value);
 
     /* Two new pages: every byte of the first is 1, of the second 2; they end in their ids. */
     bitbox_change changes[2];
     memset(changes, 0, sizeof changes);
     for (int i = 0; i < 2; i++) {
-        memset(pages + BITBOX_PAGE * i, i + 1, BITBOX_PAGE);
+        memset(pages + BITBOX_PAGE * (size_t)i, i + 1, BITBOX_PAGE);
         memset(changes[i].id, i + 1, 32);
         changes[i].hash = 3; /* both begin at bucket 3 */
         changes[i].diff = bitbox_diff_set(0, 0, 10 * (size_t)i).diff;
@@ -84,6 +112,9 @@ int main(void)
     bitbox_audited audited = bitbox_audit(image, LENGTH, N, all, N);
     printf("audit: refusal %llu, %llu of %llu full, rate %.2f\n", (unsigned long long)audited.refusal,
            (unsigned long long)audited.occupied, (unsigned long long)audited.capacity, audited.rate);
+
+    uint64_t refusal = nodes_there_and_back(&changes[0], pages);
+    printf("one node for two slots: refusal %llu, %s\n", (unsigned long long)refusal, bitbox_refusal_name(refusal));
 
     /* What is wrong is told by a number. */
     printf("a table of no buckets: refusal %llu\n", (unsigned long long)bitbox_table_length(0).refusal);

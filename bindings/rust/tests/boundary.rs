@@ -1,136 +1,74 @@
 //! Every declaration against the text of the library's own source: each exported function with its
 //! arguments and answer, each struct with its fields, in src/ and in the header for C.
 
-use std::collections::BTreeMap;
+#[path = "../declarations.rs"]
+mod declarations;
+use declarations::{cksum, differences, flat, library, misfit, ours, Declared};
 
 const LIBRARY: &str = include_str!("../../../crates/bitbox/src/lib.rt");
 const PAGE_DIFF: &str = include_str!("../../../crates/page_diff/src/lib.rt");
 const SYNC: &str = include_str!("../../../crates/sync/src/lib.rt");
-const FFI: &str = include_str!("../src/ffi.rs");
-const DIFF: &str = include_str!("../src/diff.rs");
-const CHANGE: &str = include_str!("../src/change.rs");
 const HEADER: &str = include_str!("../../c/bitbox.h");
+const VERSION: &str = env!("CARGO_PKG_VERSION");
 
-/// A function: its arguments by name and type, and the type of its answer.
-type Function = (Vec<(String, String)>, String);
-
-/// The text on one line, with single spaces.
-fn flat(text: &str) -> String {
-    text.split_whitespace().collect::<Vec<_>>().join(" ")
-}
-
-/// `name: type` pairs, separated by commas outside brackets.
-fn pairs(list: &str) -> Vec<(String, String)> {
-    let mut parts = vec![String::new()];
-    let mut depth = 0;
-    for c in list.chars() {
-        match c {
-            '[' | '(' => depth += 1,
-            ']' | ')' => depth -= 1,
-            _ => {}
-        }
-        if c == ',' && depth == 0 {
-            parts.push(String::new());
-        } else {
-            parts.last_mut().unwrap().push(c);
-        }
-    }
-    let pair = |p: &String| {
-        let (name, ty) = p.split_once(':').unwrap_or_else(|| panic!("no type in '{p}'"));
-        (name.trim().to_string(), flat(ty))
-    };
-    parts.iter().filter(|p| !p.trim().is_empty()).map(pair).collect()
-}
-
-/// `(args) -> answer` up to one of the ends.
-fn function(text: &str, ends: &[&str]) -> Function {
-    let end = ends.iter().filter_map(|e| text.find(e)).min().expect("a declaration ends");
-    let text = flat(&text[..end]);
-    let close = text.rfind(')').expect("a closing bracket");
-    let args = pairs(text[..close].split_once('(').expect("an opening bracket").1);
-    let answer = text[close + 1..].trim().strip_prefix("->").unwrap_or("()").trim().to_string();
-    (args, answer)
-}
-
-fn exported() -> BTreeMap<String, Function> {
-    let mut out = BTreeMap::new();
-    for text in LIBRARY.split("#[no_mangle]\npub extern \"C\" fn ").skip(1) {
-        let name = text.split('(').next().unwrap().to_string();
-        out.insert(name, function(text, &["\n    ensures", "\n    requires", "\n{"]));
-    }
-    out
-}
-
-/// What an argument of the library is for a caller: a slice is a pointer and then a length.
-fn lowered((name, ty): &(String, String)) -> Vec<(String, String)> {
-    let slice = |prefix: &str| {
-        ty.strip_prefix(prefix).and_then(|t| t.strip_suffix(']')).filter(|t| !t.contains(';')).map(str::to_string)
-    };
-    let (pointer, of) = match (slice("&mut ["), slice("&[")) {
-        (Some(of), _) => ("*mut", of),
-        (_, Some(of)) => ("*const", of),
-        _ => return vec![(name.clone(), ty.clone())],
-    };
-    vec![(name.clone(), format!("{pointer} {of}")), (format!("{name}_len"), "usize".to_string())]
+fn sources() -> Declared {
+    library(&[PAGE_DIFF, SYNC, LIBRARY].concat())
 }
 
 #[test]
 fn the_library_exports_what_is_known() {
-    assert_eq!(exported().len(), LIBRARY.matches("#[no_mangle]").count());
-    assert_eq!(exported().len(), 43, "a new function wants a declaration, a safe call, a line in the header and tests");
+    assert_eq!(sources().functions.len(), LIBRARY.matches("#[no_mangle]").count());
+    let known = (sources().functions.len(), sources().structs.len());
+    assert_eq!(known, (43, 20), "what is new wants a declaration, a safe call, a line in the header and tests");
 }
 
 #[test]
-fn functions_are_declared_as_they_are() {
-    let mut declared = BTreeMap::new();
-    for text in FFI.split("pub(super) fn ").skip(1) {
-        declared.insert(text.split('(').next().unwrap().to_string(), function(text, &[";\n"]));
-    }
-    for (name, (args, answer)) in exported() {
-        let (ours, our_answer) = declared.remove(&name).unwrap_or_else(|| panic!("{name} is not declared"));
-        assert_eq!(ours, args.iter().flat_map(lowered).collect::<Vec<_>>(), "{name}");
-        assert_eq!(our_answer, answer, "{name}");
-    }
-    assert!(declared.is_empty(), "not exported: {:?}", declared.keys());
+fn all_is_declared_as_it_is() {
+    assert_eq!(differences(&sources(), &ours()), [""; 0]);
+    assert_eq!(sources(), ours());
 }
 
-/// The structs `#[repr(C)]` of a source, with their fields.
-fn structs(source: &str) -> BTreeMap<String, Vec<(String, String)>> {
-    let mut out = BTreeMap::new();
-    for text in source.split("#[repr(C)]\n").skip(1) {
-        let text = &text[..text.find("\n}").expect("a struct ends")];
-        let body = text.split_once("struct ").expect("a struct").1;
-        let (name, fields) = body.split_once(" {").expect("its fields");
-        let fields: Vec<String> = fields
-            .lines()
-            .map(|l| l.trim().trim_start_matches("pub(crate) ").trim_start_matches("pub ").to_string())
-            .filter(|l| !l.starts_with("//"))
-            .collect();
-        out.insert(name.to_string(), pairs(&fields.concat()));
-    }
-    out
+/// What bindings/library writes beside a library of these bytes.
+fn exports(version: &str, text: &str, bytes: &[u8]) -> String {
+    format!("bitbox {version}\n{text}\nlibbitbox.a {} {}\n", cksum(bytes), bytes.len())
 }
 
-fn library_structs() -> BTreeMap<String, Vec<(String, String)>> {
-    [LIBRARY, PAGE_DIFF, SYNC].into_iter().flat_map(structs).collect()
-}
+#[test]
+fn a_library_that_does_not_fit_is_told() {
+    let text = [PAGE_DIFF, SYNC, LIBRARY].concat();
+    let told = |version: &str, text: &str| misfit(b"a library", &exports(version, text, b"a library"), VERSION);
+    assert_eq!(told(VERSION, &text), None);
+    assert_eq!(told("0.1.0", &text), Some(format!("the library is of version 0.1.0, the crate of version {VERSION}")));
 
-/// The names that are other words for a type.
-fn plain(fields: Vec<(String, String)>) -> Vec<(String, String)> {
-    let ty = |t: String| match t.as_str() {
-        "[Node; SLOTS]" => "[[u8; 32]; 126]".to_string(),
-        "PageId" => "[u8; 32]".to_string(),
-        _ => t,
+    let says = "the library does not export what the crate calls: ";
+    let changed = |from: &str, to: &str| {
+        assert_eq!(text.matches(from).count(), 1, "{from}");
+        told(VERSION, &text.replace(from, to)).unwrap_or_default()
     };
-    fields.into_iter().map(|(name, t)| (name, ty(t))).collect()
+    let fewer = changed("pub extern \"C\" fn bitbox_tag_page(bucket", "fn bitbox_tag_page(bucket");
+    assert_eq!(fewer, format!("{says}bitbox_tag_page is not in the library"));
+    let more = changed("pub extern \"C\" fn bitbox_tag_page(", "pub extern \"C\" fn bitbox_tags_page(");
+    assert_eq!(more, format!("{says}bitbox_tag_page is not in the library; bitbox_tags_page is not in the crate"));
+    let other = changed("fn bitbox_tag_page(bucket: u64) -> u64", "fn bitbox_tag_page(bucket: u32) -> u64");
+    assert_eq!(other, format!("{says}bitbox_tag_page is declared otherwise in the library"));
+    let wider = changed("pub struct Stepped {\n    pub refusal: u64,", "pub struct Stepped {\n    pub refusal: u32,");
+    assert_eq!(wider, format!("{says}Stepped is declared otherwise in the library"));
 }
 
 #[test]
-fn structs_are_declared_as_they_are() {
-    let theirs = library_structs();
-    let ours: BTreeMap<_, _> = [FFI, DIFF, CHANGE].into_iter().flat_map(structs).map(|(n, f)| (n, plain(f))).collect();
-    assert_eq!(theirs.len(), 20);
-    assert_eq!(ours, theirs);
+fn a_library_of_other_bytes_is_told() {
+    let text = exports(VERSION, &[PAGE_DIFF, SYNC, LIBRARY].concat(), b"a library");
+    let other = Some("libbitbox.exports was written for another libbitbox.a than the one beside it".to_string());
+    assert_eq!(misfit(b"a library", &text, VERSION), None);
+    assert_eq!(misfit(b"a_library", &text, VERSION), other);
+    assert_eq!(misfit(b"a library", "", VERSION), other);
+    assert_eq!(misfit(b"a library", text.trim_end_matches(|c| c != '}'), VERSION), other);
+}
+
+#[test]
+fn the_sum_is_that_of_cksum() {
+    assert_eq!(cksum(b""), 4_294_967_295);
+    assert_eq!(cksum(b"123456789"), 930_766_865);
 }
 
 /// A type in C, before the name of what has it, and after.
@@ -172,30 +110,57 @@ fn in_c(ty: &str) -> (String, String) {
     (format!("{constant}{}", word(of)), dims)
 }
 
-/// `const uint8_t *page` and so on. (`new` is a word of C++.)
+/// `const uint8_t *page` and so on. (`new` is a word of C++.) A table of arrays goes by a pointer to its first byte:
+/// in C no table fits a pointer to arrays of const bytes.
 fn argument((name, ty): &(String, String)) -> String {
     let name = match name.as_str() {
         "old" | "new" => format!("{name}_count"),
         _ => name.clone(),
     };
     let (before, after) = in_c(ty);
-    let star = if ty.starts_with('*') { "*" } else { "" };
-    format!("{before} {star}{name}{after}")
+    if ty.starts_with('*') || ty.starts_with("&[[") {
+        return format!("{before} *{name}");
+    }
+    format!("{before} {name}{after}")
 }
 
 #[test]
 fn the_header_declares_the_same() {
     let header = flat(HEADER);
-    for (name, (args, answer)) in exported() {
-        let args: Vec<String> = args.iter().flat_map(lowered).map(|a| argument(&a)).collect();
-        let line = format!("{} {name}({});", in_c(&answer).0, args.join(", "));
+    let Declared { functions, structs } = sources();
+    for (name, (args, answer)) in &functions {
+        let args: Vec<String> = args.iter().map(argument).collect();
+        let line = format!("{} {name}({});", in_c(answer).0, args.join(", "));
         assert!(header.contains(&line), "bitbox.h has no line\n{line}");
     }
-    assert_eq!(HEADER.matches(");\n").count(), exported().len(), "functions in bitbox.h");
-    for (name, fields) in library_structs() {
+    assert_eq!(HEADER.matches(");\n").count(), functions.len(), "functions in bitbox.h");
+    for (name, fields) in &structs {
         let fields: Vec<String> = fields.iter().map(|f| format!("{};", argument(f))).collect();
-        let line = format!("typedef struct {{ {} }} {};", fields.join(" "), in_c(&name).0);
+        let line = format!("typedef struct {{ {} }} {};", fields.join(" "), in_c(name).0);
         assert!(header.contains(&line), "bitbox.h has no\n{line}");
     }
-    assert_eq!(HEADER.matches("typedef struct").count(), library_structs().len(), "structs in bitbox.h");
+    assert_eq!(HEADER.matches("typedef struct").count(), structs.len(), "structs in bitbox.h");
+}
+
+/// The number that the header gives a name, and the name that it gives the number.
+#[test]
+fn the_header_has_the_version_and_the_refusals() {
+    assert!(HEADER.contains(&format!("#define BITBOX_VERSION \"{VERSION}\"\n")), "BITBOX_VERSION is not {VERSION}");
+    let parts: Vec<u32> = VERSION.split('.').map(|part| part.parse().expect("a number")).collect();
+    let number = 10_000 * parts[0] + 100 * parts[1] + parts[2];
+    assert!(HEADER.contains(&format!("#define BITBOX_VERSION_NUMBER {number} ")), "BITBOX_VERSION_NUMBER");
+    for refusal in bitbox::Refusal::all() {
+        let mut constant = "BITBOX".to_string();
+        for c in refusal.name().chars() {
+            if c.is_uppercase() {
+                constant.push('_');
+            }
+            constant.extend(c.to_uppercase());
+        }
+        let number = format!("    {constant} = {}", refusal.number());
+        assert!(HEADER.lines().any(|l| l.starts_with(&format!("{number},")) || l.starts_with(&format!("{number} "))));
+        let name = format!("    case {constant}: return \"{}\";", refusal.name());
+        assert!(HEADER.lines().any(|l| l == name), "bitbox.h has no line {name}");
+    }
+    assert_eq!(HEADER.matches("    case BITBOX_").count(), 1 + bitbox::Refusal::all().len(), "names in bitbox.h");
 }
