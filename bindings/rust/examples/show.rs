@@ -4,13 +4,15 @@
 //!
 //! Forty questions are synced. A second sync changes, adds and clears some; power is cut at a byte of the
 //! table's write-out that chance picks, and again at a byte of the recovery's own. Then the table must be, byte
-//! for byte, that of a store whose power was never cut. `--list` names the program that reads off logs. With
-//! rounds, each has the next seed and only their sum is told. Any mismatch ends with status 1.
+//! for byte, that of a store whose power was never cut. Last, a rehearsal's logs are offered to it: a log says of
+//! which sync it is, and not of which store. `--list` names the program that reads off logs. With rounds, each has
+//! the next seed and only their sum is told. Any mismatch ends with status 1.
 
 use bitbox::{
-    audit, lookup, page_number, replay, sync, table_length, tag_pages, Change, Diff, Entry, Found, Lent, LogWriter,
-    PageId, Reader, Replayed, Synced, Where, Writer, NODE, PAGE, SLOTS, UNSET,
+    audit, lookup, page_number, replay, sync, table_length, tag_page, tag_pages, Change, Diff, Entry, EntryRef, Found,
+    Lent, LogWriter, PageId, Reader, Replayed, Synced, Where, Writer, NODE, PAGE, SLOTS, UNSET,
 };
+use mapped::Mapped;
 use std::{
     collections::BTreeMap,
     env,
@@ -21,6 +23,8 @@ use std::{
     process::{self, Command, ExitCode},
     time::{SystemTime, UNIX_EPOCH},
 };
+
+mod mapped;
 
 type Outcome<T> = Result<T, Box<dyn Error>>;
 
@@ -34,8 +38,10 @@ const CLEARED: usize = 6;
 /// Where a page has its elided children, and after them its id.
 const ELIDED: usize = PAGE - 40;
 const ID: usize = PAGE - 32;
-/// The number of a rehearsal's sync, which is no sync of the show.
-const REHEARSAL: u32 = 7000;
+/// The syncs of the show, and one of a rehearsal, by their numbers.
+const OPENED: u32 = 1;
+const TONIGHT: u32 = 2;
+const REHEARSED: u32 = 7000;
 
 /// A page's hash is the caller's to choose. Here it is FNV-1a, 64 bits, over the 32 bytes of its id.
 fn hash_of(id: &PageId) -> u64 {
@@ -149,12 +155,14 @@ impl Show {
     }
 }
 
-/// Pages to write, each with its number in the table.
-type Pages = Vec<(usize, Vec<u8>)>;
+/// Pages to write, by their numbers in the table: where a bucket is named twice the last page is its.
+type Pages = BTreeMap<u64, Vec<u8>>;
 
-/// A store's files: the table, the log of a sync that may not be in it yet, and the number of the last sync.
+/// A store's files: the table, the log of a sync that may not be in it yet, and the number of the last sync. The
+/// log has the store's name in its own, since nothing in it says whose it is; a service draws that name by chance.
 struct Store {
     folder: PathBuf,
+    log_name: String,
 }
 
 /// What a recovery has made of the table, in memory so far.
@@ -165,11 +173,11 @@ struct Recovery {
 }
 
 impl Store {
-    fn create(folder: PathBuf) -> Outcome<Store> {
-        fs::create_dir(&folder)?;
-        let store = Store { folder };
-        fs::write(store.path("table"), vec![0; table_length(BUCKETS)? as usize])?;
-        fs::write(store.path("log"), [])?;
+    fn create(folder: &Path, name: &str) -> Outcome<Store> {
+        let store = Store { folder: folder.join(name), log_name: format!("log-{name}") };
+        fs::create_dir(&store.folder)?;
+        File::create(store.path("table"))?.set_len(table_length(BUCKETS)?)?;
+        fs::write(store.path(&store.log_name), [])?;
         fs::write(store.path("number"), 0u32.to_le_bytes())?;
         Ok(store)
     }
@@ -178,12 +186,28 @@ impl Store {
         self.folder.join(name)
     }
 
-    fn table(&self) -> io::Result<Vec<u8>> {
-        fs::read(self.path("table"))
+    /// The table in memory, where it may be written; the file stays as it is.
+    fn table(&self) -> io::Result<Mapped> {
+        Mapped::new(&File::open(self.path("table"))?)
     }
 
     fn log(&self) -> io::Result<Vec<u8>> {
-        fs::read(self.path("log"))
+        fs::read(self.path(&self.log_name))
+    }
+
+    fn put_log(&self, log: &[u8]) -> io::Result<()> {
+        self.put(&self.log_name, log)
+    }
+
+    /// A log that lies here and is not this store's.
+    fn other_log(&self) -> Outcome<Option<String>> {
+        for file in fs::read_dir(&self.folder)? {
+            let name = file?.file_name().to_string_lossy().into_owned();
+            if name.starts_with("log-") && name != self.log_name {
+                return Ok(Some(name));
+            }
+        }
+        Ok(None)
     }
 
     /// Makes a file anew, whole or not at all: the bytes are on disk before the file has its name.
@@ -209,18 +233,18 @@ impl Store {
         let mut log = vec![0; log_room(edits.len())];
         let mut lent = Lent { n: BUCKETS, tags: &mut tags, marks: &mut marks, cells: &mut cells, log: &mut log };
         let synced = sync(&mut lent, &mut Writer::Fresh, number, &changes, &pages)?;
-        self.put("log", &log[..synced.length])?;
+        self.put_log(&log[..synced.length])?;
         self.put("number", &number.to_le_bytes())?;
         Ok((synced, to_write(edits, &cells, &tags, &marks)?))
     }
 
     /// Writes pages into the table, one after the other. Where power is cut, no byte from `cut` on arrives.
-    fn write_out(&self, pages: &Pages, cut: Option<usize>) -> io::Result<()> {
+    fn write_out<'a>(&self, pages: impl Iterator<Item = (u64, &'a [u8])>, cut: Option<usize>) -> io::Result<()> {
         let mut file = OpenOptions::new().write(true).open(self.path("table"))?;
         let mut left = cut.unwrap_or(usize::MAX);
         for (number, page) in pages {
             let arrives = &page[..left.min(page.len())];
-            file.seek(SeekFrom::Start((PAGE * number) as u64))?;
+            file.seek(SeekFrom::Start(PAGE as u64 * number))?;
             file.write_all(arrives)?;
             left -= arrives.len();
         }
@@ -229,21 +253,37 @@ impl Store {
 
     /// The rest of a sync or a recovery: the table, and only then the log is emptied.
     fn finish(&self, pages: &Pages) -> io::Result<()> {
-        self.write_out(pages, None)?;
-        self.put("log", &[])
+        self.write_out(pages.iter().map(|(number, page)| (*number, &page[..])), None)?;
+        self.put_log(&[])
     }
 
-    /// What a service does when it starts: the log is replayed onto the table in memory.
+    /// What a service does when it starts: the log is replayed onto the table in memory, and the pages that it
+    /// names are what is to be written.
     fn recover(&self) -> Outcome<Recovery> {
+        if let Some(name) = self.other_log()? {
+            return Err(format!("{name} is the log of another store").into());
+        }
         let number = u32::from_le_bytes(fs::read(self.path("number"))?.as_slice().try_into()?);
-        let (log, before) = (self.log()?, self.table()?);
+        let (log, mut image) = (self.log()?, self.table()?);
         let hashes = hashes_of(&log);
-        let mut after = before.clone();
-        let answer = replay(&mut after, BUCKETS, &log, number, &hashes)?;
-        let pages = before.chunks(PAGE).zip(after.chunks(PAGE)).enumerate();
-        let pages = pages.filter(|(_, (b, a))| b != a).map(|(i, (_, a))| (i, a.to_vec())).collect();
+        let answer = replay(&mut image, BUCKETS, &log, number, &hashes)?;
+        let numbers = if answer == Replayed::Applied { named(&log)? } else { vec![] };
+        let pages = numbers.into_iter().map(|i| (i, image[PAGE * i as usize..][..PAGE].to_vec())).collect();
         Ok(Recovery { answer, hashes: hashes.len(), pages })
     }
+}
+
+/// The pages that a log names: those of its updates, and the tag page of every bucket in it.
+fn named(log: &[u8]) -> Outcome<Vec<u64>> {
+    let mut numbers = vec![];
+    for entry in Reader::new(log)?.entries() {
+        let entry = entry?;
+        if let EntryRef::Update(update) = entry {
+            numbers.push(page_number(BUCKETS, update.bucket)?);
+        }
+        numbers.extend(entry.bucket().map(tag_page));
+    }
+    Ok(numbers)
 }
 
 /// A cell for each edit: the bucket of a page that is there, unset for a new one.
@@ -259,20 +299,20 @@ fn log_room(edits: usize) -> usize {
 
 /// What a sync has to write into the table: the pages of its updates, and the tag pages that it marked.
 fn to_write(edits: &[Edit], cells: &[u64], tags: &[u8], marks: &[u8]) -> Outcome<Pages> {
-    let mut pages = vec![];
+    let mut pages = Pages::new();
     for (edit, bucket) in edits.iter().zip(cells).filter(|(e, _)| !e.diff.cleared()) {
-        pages.push((page_number(BUCKETS, *bucket)? as usize, edit.page.clone()));
+        pages.insert(page_number(BUCKETS, *bucket)?, edit.page.clone());
     }
     let marked = tags.chunks(PAGE).enumerate().filter(|(i, _)| marks[*i] == 1);
-    pages.extend(marked.map(|(i, page)| (i, page.to_vec())));
+    pages.extend(marked.map(|(i, page)| (i as u64, page.to_vec())));
     Ok(pages)
 }
 
 /// One hash for each update of a log. What cannot be read is left to the replay, which says why.
 fn hashes_of(log: &[u8]) -> Vec<u64> {
-    let entries = Reader::new(log).into_iter().flatten().map_while(Result::ok);
+    let entries = Reader::new(log).into_iter().flat_map(Reader::entries).map_while(Result::ok);
     let hash = |entry| match entry {
-        Entry::Update(update) => Some(hash_of(&update.id)),
+        EntryRef::Update(update) => Some(hash_of(update.id)),
         _ => None,
     };
     entries.filter_map(hash).collect()
@@ -322,7 +362,7 @@ fn read_off(log: &[u8]) -> Outcome<Vec<String>> {
 
 /// The log of a store as the program reads it off, which must be as the crate's reader does.
 fn listed(store: &Store, program: &Path) -> Outcome<()> {
-    let output = Command::new(program).stdin(File::open(store.path("log"))?).output()?;
+    let output = Command::new(program).stdin(File::open(store.path(&store.log_name))?).output()?;
     let printed = String::from_utf8(output.stdout)?;
     let lines = read_off(&store.log()?)?;
     check(output.status.success() && printed.lines().eq(lines), || {
@@ -347,28 +387,23 @@ fn check_pages(image: &[u8], show: &Show) -> Outcome<()> {
     Ok(())
 }
 
-/// The audit, with the hash of every bucket's page.
-fn audited(image: &[u8], show: &Show) -> Outcome<String> {
+/// The audit, with the hash of every bucket's page, passes a table of so many pages.
+fn audited(image: &[u8], stored: usize) -> Outcome<String> {
     let data = image.chunks(PAGE).skip(tag_pages(BUCKETS)? as usize);
     let hashes: Vec<u64> = data.map(|page| hash_of(&id_of(page))).collect();
     let passed = audit(image, BUCKETS, &hashes)?;
-    let stored = show.pages.len();
     check(passed.occupied == stored as u64, || format!("{} full for {stored} pages", passed.occupied))?;
     Ok(format!("{} of {} buckets full, rate {:.3}", passed.occupied, passed.capacity, passed.rate))
 }
 
-/// The log of a rehearsal, which would clear the whole table, is not taken.
-fn offer_rehearsal(store: &Store) -> Outcome<()> {
+/// The log of a rehearsal's sync, which clears the whole table.
+fn rehearsal(number: u32) -> Outcome<Vec<u8>> {
     let mut memory = vec![0; log_room(BUCKETS)];
-    let mut writer = LogWriter::begin(&mut memory, REHEARSAL)?;
+    let mut writer = LogWriter::begin(&mut memory, number)?;
     for bucket in 0..BUCKETS {
         writer.write_clear(bucket as u64)?;
     }
-    store.put("log", writer.finish()?)?;
-    let recovery = store.recover()?;
-    check(recovery.answer == Replayed::Stale, || format!("a rehearsal's log is {:?}", recovery.answer))?;
-    check(recovery.pages.is_empty(), || "a rehearsal's log has changed the table".into())?;
-    Ok(store.put("log", &[])?)
+    Ok(writer.finish()?.to_vec())
 }
 
 /// A folder that goes when the round is over.
@@ -404,11 +439,12 @@ impl Round<'_> {
     }
 
     /// Writes pages in any order until power is cut; how many bytes of the table are then not as they should be.
-    fn cut(&mut self, store: &Store, mut pages: Pages, of: &str, wanted: &[u8]) -> Outcome<usize> {
+    fn cut(&mut self, store: &Store, pages: &Pages, of: &str, wanted: &[u8]) -> Outcome<usize> {
+        let mut pages: Vec<(u64, &[u8])> = pages.iter().map(|(number, page)| (*number, &page[..])).collect();
         self.chance.shuffle(&mut pages);
         let bytes = PAGE * pages.len();
         let cut = self.chance.below(bytes.max(1));
-        store.write_out(&pages, Some(cut))?;
+        store.write_out(pages.into_iter(), Some(cut))?;
         let wrong = store.table()?.iter().zip(wanted).filter(|(is, should)| is != should).count();
         self.say(format!("POWER CUT at byte {cut} of {bytes} of {of}: {wrong} bytes of the table are wrong"));
         Ok(wrong)
@@ -428,7 +464,7 @@ impl Round<'_> {
         }
         let lines = read_off(&store.log()?)?;
         let by = if self.list.is_some() { "the program list" } else { "the crate's reader" };
-        self.say(format!("the log of sync 2, read off by {by}:"));
+        self.say(format!("the log of sync {TONIGHT}, read off by {by}:"));
         lines.iter().take(5).for_each(|line| self.say(format!("    {line}")));
         self.say(format!("    ... and {} more lines", lines.len().saturating_sub(5)));
         Ok(())
@@ -437,53 +473,83 @@ impl Round<'_> {
     /// The table after all is over, against the show, the audit and the undisturbed table.
     fn check_end(&self, store: &Store, show: &Show, wanted: &[u8]) -> Outcome<()> {
         let image = store.table()?;
-        self.say(format!("the audit passes: {}", audited(&image, show)?));
+        self.say(format!("the audit passes: {}", audited(&image, show.pages.len())?));
         check_pages(&image, show)?;
         let (found, gone) = (show.pages.len(), show.cleared.len());
         self.say(format!(
             "{found} questions looked up: every byte is as the show wrote it; {gone} cleared ones are gone"
         ));
-        check(image == wanted, || "the table is not that of a store whose power was never cut".into())?;
+        check(image[..] == *wanted, || "the table is not that of a store whose power was never cut".into())?;
         self.say(format!("all {} bytes of the table are those of a store whose power was never cut", image.len()));
         let recovery = store.recover()?;
         check(recovery.answer == Replayed::Nothing, || format!("an empty log is {:?}", recovery.answer))?;
         self.say("started again: the log is empty, nothing to do");
-        offer_rehearsal(store)?;
-        check(store.table()? == wanted, || "a rehearsal's log has reached the table".into())?;
-        self.say(format!("a rehearsal's log (sync {REHEARSAL}) is offered: stale, the table is as it was"));
         Ok(())
+    }
+
+    /// What a rehearsal's log does: by another number nothing, by the same number harm, and nothing where the name
+    /// of its file tells whose it is.
+    fn offer_rehearsals(&self, store: &Store, show: &Show, wanted: &[u8]) -> Outcome<()> {
+        store.put_log(&rehearsal(REHEARSED)?)?;
+        let recovery = store.recover()?;
+        check(recovery.answer == Replayed::Stale && recovery.pages.is_empty(), || {
+            format!("a rehearsal's log of another number is {:?}", recovery.answer)
+        })?;
+        self.say(format!("a rehearsal's log of sync {REHEARSED} in place of the show's: stale, nothing is done"));
+
+        store.put_log(&rehearsal(TONIGHT)?)?;
+        let recovery = store.recover()?;
+        check(recovery.answer == Replayed::Applied, || format!("one of the same number is {:?}", recovery.answer))?;
+        let mut image = store.table()?;
+        for (number, page) in &recovery.pages {
+            image[PAGE * *number as usize..][..PAGE].copy_from_slice(page);
+        }
+        let audit = audited(&image, 0)?;
+        self.say(format!(
+            "BEWARE: one of sync {TONIGHT}, the show's own number, is TAKEN: nothing in a log says whose it is"
+        ));
+        self.say(format!("    all {} questions would be gone, and the audit passes: {audit}", show.pages.len()));
+
+        store.put_log(&[])?;
+        store.put("log-rehearsal", &rehearsal(TONIGHT)?)?;
+        let refused = store.recover().err().map(|why| why.to_string()).unwrap_or_default();
+        check(refused.contains("another store"), || "the log of another store is taken".into())?;
+        self.say(format!("so the name of a log's file has the store's: refused, {refused}"));
+        fs::remove_file(store.path("log-rehearsal"))?;
+        check(store.table()?[..] == *wanted, || "a rehearsal's log has reached the table".into())
     }
 
     /// The whole story; how many bytes the two power cuts had left wrong.
     fn run(&mut self, folder: &Path) -> Outcome<usize> {
-        let store = Store::create(folder.join("store"))?;
-        let undisturbed = Store::create(folder.join("undisturbed"))?;
+        let store = Store::create(folder, "show")?;
+        let undisturbed = Store::create(folder, "undisturbed")?;
         let mut show = Show::default();
 
         let opening = show.opening(&mut self.chance)?;
         let evening = show.evening(&mut self.chance)?;
-        for (number, edits) in [(1, &opening), (2, &evening)] {
+        for (number, edits) in [(OPENED, &opening), (TONIGHT, &evening)] {
             let (_, pages) = undisturbed.prepare(number, edits)?;
             undisturbed.finish(&pages)?;
         }
         let wanted = undisturbed.table()?;
 
-        let (synced, pages) = store.prepare(1, &opening)?;
+        let (synced, pages) = store.prepare(OPENED, &opening)?;
         store.finish(&pages)?;
-        self.say(format!("sync 1: {OPENING} questions, a log of {} bytes; all written out", synced.length));
-        let (synced, pages) = store.prepare(2, &evening)?;
+        self.say(format!("sync {OPENED}: {OPENING} questions, a log of {} bytes; all written out", synced.length));
+        let (synced, pages) = store.prepare(TONIGHT, &evening)?;
         check_log(&store.log()?, &evening)?;
         let Synced { occupied, length } = synced;
-        self.say(format!("sync 2: {CHANGED} changed, {ADDED} new, {CLEARED} cleared; {occupied} buckets full"));
+        self.say(format!("sync {TONIGHT}: {CHANGED} changed, {ADDED} new, {CLEARED} cleared; {occupied} buckets full"));
         self.say(format!("its log of {length} bytes is on disk and reads back as these {} edits", evening.len()));
         self.tell_log(&store)?;
 
-        let first = self.cut(&store, pages, "the table's write-out", &wanted)?;
+        let first = self.cut(&store, &pages, "the table's write-out", &wanted)?;
         let pages = self.start(&store)?;
-        let second = self.cut(&store, pages, "the recovery's write-out", &wanted)?;
+        let second = self.cut(&store, &pages, "the recovery's write-out", &wanted)?;
         let pages = self.start(&store)?;
         store.finish(&pages)?;
         self.check_end(&store, &show, &wanted)?;
+        self.offer_rehearsals(&store, &show, &wanted)?;
         Ok(first + second)
     }
 }
@@ -508,6 +574,7 @@ fn asked(mut words: impl Iterator<Item = String>) -> Outcome<Asked> {
             _ => return Err(format!("{word} is none of --seed, --rounds, --list").into()),
         }
     }
+    check(asked.rounds > 0, || "--rounds 0 would show nothing: it wants 1 or more".into())?;
     Ok(asked)
 }
 
