@@ -148,8 +148,11 @@ impl Error for SyncRefused {
 }
 
 /// Takes a list of changes into the tags, and writes their log. `pages` has the page of each change, in
-/// order; those of clearing changes are not read. The writer is finished afterwards, or fresh where a
-/// change was refused.
+/// order; those of clearing changes are not read. The writer is finished afterwards.
+///
+/// Refused at a change, it leaves in tags, cells and log what the changes before it did, the log's start with
+/// them; the marks are zeroed but for those of these changes; and the writer is fresh. Tags and cells belong
+/// together: lend copies of both, and a second try starts from what was before.
 ///
 /// # Errors
 ///
@@ -195,7 +198,9 @@ pub struct Step {
     pub page: u64,
 }
 
-/// One change of a sync: what [`sync`] does for each of its list.
+/// One change of a sync: what [`sync`] does for each of its list. Before the first the caller zeroes the marks,
+/// begins the log ([`Writer::begin`]) and counts the full buckets ([`full_count`](crate::full_count)) into the
+/// state; after the last it finishes the log ([`Writer::finish`]).
 ///
 /// # Errors
 ///
