@@ -1,16 +1,16 @@
 // The read path of a log, as the original's wal/read.rs. `head_at` is the core: it takes a record
 // apart but for its nodes, and builds no table. `entry_at` gives the whole entry. Both take the log and
-// a position; `WalBlobReader` holds the two.
+// a position; `WalBlobReader` holds the two, and what the log's start answered.
 ghost use mathlib.Core.Path.{_≡_};
 ghost use Prim.Native.Nat.{_+_, _*_, _≤_};
 ghost use lib.ListN.{length};
 ghost use Rattle.answers.specs.Answers.{outcomeSaid, numberSaid};
 ghost use Rattle.blocks.specs.Blocks.{block};
 ghost use Rattle.page_diff.specs.Diff.{readAnswer, readWords};
-ghost use Rattle.wal.specs.Log.{startSize};
 ghost use Rattle.wal.specs.Reader.{startOf, nextAt, nodesFrom};
 ghost use Rattle.wal_read.specs.Head.{headOf, headSaid};
 ghost use Rattle.wal_read.specs.Entry.{Taken, Bare, rows};
+ghost use Rattle.wal_read.specs.Set.{givesAt, SetOn, Gives, Reads};
 use answers::Number;
 use answers::Outcome;
 use answers::Refusal;
@@ -190,39 +190,53 @@ pub fn entry_at(log: &[u8], at: usize) -> WalEntry
     }
 }
 
-// A reader set on a log: the log, and the position of the next entry.
-pub struct WalBlobReader<'a> {
-    pub log: &'a [u8],
-    pub at: usize,
-}
-
-// A reader set on a log, before its first entry. Whether the log has a start, `sync_seqn` says.
-pub fn new<'a>(log: &'a [u8]) -> WalBlobReader<'a>
-    ensures { λ r. ⌜ (r .log ≡ log .entry) × (r .at ≡ startSize) ⌝ }
+// What a reader whose start was answered so gives at `at`: the entry there, or the start's refusal again.
+pub fn entry_set(log: &[u8], at: usize, start: Number) -> WalEntry
+    ensures { λ e. ⌜ Taken (givesAt (numberSaid start) (now (log .entry)) at) at e ⌝ }
 {
-    WalBlobReader {
-        log,
-        at: wal::START_SIZE,
+    match start {
+        Number::Is(_) => entry_at(log, at),
+        Number::Refused(why) => bare(What::Refused(why), at),
     }
 }
 
-// The sync number of the reader's log.
-pub fn sync_seqn<'a>(r: WalBlobReader<'a>) -> Number
-    ensures { λ n. ⌜ numberSaid n ≡ startOf (now (r .entry .log)) ⌝ }
+// A reader set on a log: the log, the position of the next entry, and what the start answered.
+pub struct WalBlobReader<'a> {
+    pub log: &'a [u8],
+    pub at: usize,
+    pub start: Number,
+}
+
+// Sets a reader on a log: it reads the start, and stands before the first entry. Where the start is
+// refused, each call on the reader is refused so.
+pub fn new<'a>(log: &'a [u8]) -> WalBlobReader<'a>
+    ensures { λ r. ⌜ SetOn (log .entry) r ⌝ }
 {
-    set(r.log)
+    let start = set(log);
+    WalBlobReader {
+        log,
+        at: wal::START_SIZE,
+        start,
+    }
+}
+
+// The sync number that the start gave, or its refusal.
+pub fn sync_seqn<'a>(r: WalBlobReader<'a>) -> Number
+    ensures { λ n. ⌜ n ≡ r .entry .start ⌝ }
+{
+    r.start
 }
 
 // The entry at which a reader stands.
 pub fn peek<'a>(r: WalBlobReader<'a>) -> WalEntry
-    ensures { λ e. ⌜ Taken (nextAt (now (r .entry .log)) (r .entry .at)) (r .entry .at) e ⌝ }
+    ensures { λ e. ⌜ Gives (r .entry) e ⌝ }
 {
-    entry_at(r.log, r.at)
+    entry_set(r.log, r.at, r.start)
 }
 
 // The same, and the reader moves on; at the end and on a refusal it stays.
 pub fn read_entry<'s, 'a>(r: &'s mut WalBlobReader<'a>) -> WalEntry
-    ensures { λ e. ⌜ (Taken (nextAt (now (now (r .entry) .log)) (now (r .entry) .at)) (now (r .entry) .at) e) × (now (r .exit) .log ≡ now (r .entry) .log) × (now (r .exit) .at ≡ e .next) ⌝ }
+    ensures { λ e. ⌜ Reads (now (r .entry)) e (now (r .exit)) ⌝ }
 {
     let e = peek(*r);
     r.at = e.next;

@@ -27,7 +27,7 @@ use denote.Laws.{Is, shows}
 use denote.Memory.{mem}
 use denote.Plain.{uint-makes}
 use denote.Builtin.{usize}
-use denote.Ref.{RefT, NamedLft, MutRef, now, ptr-vals, mut-tells}
+use denote.Ref.{RefT, NamedLft, MutRef, ptr-vals, mut-tells}
 use denote.Signature.{Slot, plain, namedLft}
 use denote.Steps.{only, opens, closes, owned, peeks, heard, nothing}
 use denote.Struct.Laws as LL
@@ -43,8 +43,7 @@ use denote.Triple.Walked.{says, Stays, stay-ref, walkOf, goes-ref, Walks, ends-a
 use Rattle.wal_read.specs.declared.WalBlobReader.{WalBlobReader}
 use Rattle.wal_read.proofs.WalBlobReader as T
 use Rattle.wal_read.proofs.WalBlobReader.Laws as T′
-use Rattle.wal.specs.Reader.{nextAt}
-use Rattle.wal_read.specs.Entry.{Taken}
+use Rattle.wal_read.specs.Set.{Gives}
 use Rattle.wal_read.specs.declared.WalEntry.{WalEntry}
 use Rattle.wal_read.proofs.WalEntry as S
 use Rattle.wal_read.proofs.WalEntry.Laws as S′
@@ -84,20 +83,24 @@ module _ {M : Type 1} (𝓤 : URA M) (H : Heap 𝓤) (A : Atoms 𝓤) (W : Given
 
   -- the struct with the number k
   abbrev h′ : ℕ → WalBlobReader
-  h′ k = record { log = h .log; at = k }
+  h′ k = record { log = h .log; at = k; start = h .start }
 
   abbrev at : List Val × Unit {0}
   at = (vptr b o ∷ [], tt)
 
   abbrev Found : WalEntry → Type 0
-  Found e = Taken (nextAt (now (h .log)) (h .at)) (h .at) e
+  Found e = Gives h e
 
   -- the struct's type as a local of a body has it
   abbrev αᵉ : NamedLft
   αᵉ = record { mir = erased; lft = κ′ }
 
+  -- its machine value
+  abbrev mach : WalBlobReader → Val
+  mach d = LL.val (T.the-type (α κ′)) (T′.the-laws (α κ′)) d
+
   abbrev Own : WalBlobReader → Fml
-  Own d = B κ′ .own d (T′.lowered d ∷ [])
+  Own d = B κ′ .own d (mach d ∷ [])
 
   abbrev OwnE : WalEntry → Fml
   OwnE r = S.the-row .own r (val r ∷ [])
@@ -107,17 +110,17 @@ module _ {M : Type 1} (𝓤 : URA M) (H : Heap 𝓤) (A : Atoms 𝓤) (W : Given
 
   -- what log owns is kept, and at's facts are made anew
   again : (k : ℕ) → k < 2 ^ 64 → ent 𝓤 (sem 𝓤 H A (Own h)) (sem 𝓤 H A (Own (h′ k)))
-  again k ok = qed W (‵ (Own h) ∷ []) ∵ owned ! usize (Is usize) (uint-makes 𝓤 H A W w64) k _ (refl, ok) $ move ! (1 ∷ 0 ∷ []) $ by ! (own-put 𝓤 H A W (T.the-type (α κ′)) (T′.the-laws (α κ′)) 1 (h .log, (h .at, tt)) k (T′.lowered h))
+  again k ok = qed W (‵ (Own h) ∷ []) ∵ owned ! usize (Is usize) (uint-makes 𝓤 H A W w64) k _ (refl, ok) $ move ! (1 ∷ 0 ∷ []) $ by ! (own-put 𝓤 H A W (T.the-type (α κ′)) (T′.the-laws (α κ′)) 1 (h .log, (h .at, (h .start, tt))) k (mach h))
 
   exits : (r : WalEntry) → Found r → ent 𝓤 (⋆ 𝓤 H A (‵ (fobs γ (B κ′ .coded .code (h′ (r .next)))) ∷ ‵ (fbor κ (Body (mem (B κ′)) b o γ)) ∷ ‵ (flft κ q) ∷ (‵ (flft κ′ q′) ⊛ ‵ ftrue) ∷ ‵ (OwnE r) ∷ [])) (Post (val r))
   exits r e =
       qed W (‵ (fobs γ (B κ′ .coded .code (h′ (r .next)))) ∷ ‵ (fbor κ (Body (mem (B κ′)) b o γ)) ∷ ‵ (flft κ q) ∷ (‵ (flft κ′ q′) ⊛ ‵ ftrue) ∷ ‵ (OwnE r) ∷ []) ∵
-      suffices ! _ (ends-at 𝓤 H A f.ended stayed (f.clauses 𝓤 H A at-mem run) W (((κ, (κ′, tt)), (q, (q′, tt)), bounds, x, at), tt) (val r) r (h′ (r .next), tt) (tt, tt)) $ says ! (e, refl, refl) $
+      suffices ! _ (ends-at 𝓤 H A f.ended stayed (f.clauses 𝓤 H A at-mem run) W (((κ, (κ′, tt)), (q, (q′, tt)), bounds, x, at), tt) (val r) r (h′ (r .next), tt) (tt, tt)) $ says ! (record { entry-is = e; log-stays = refl; at-moves = refl; start-stays = refl }) $
       move ! (2 ∷ 3 ∷ []) $ join ! $ frame ! $ feqI ! (List Val) (vptr b o ∷ []) (vptr b o ∷ []) refl $ fjoin3 ! $ nothing ! $ move ! (1 ∷ 0 ∷ []) $ fjoin ! $ frame ! $ done !
 
   -- the call of `peek`, at the struct
   abbrev to : Peek 𝓤 H A at-mem run .Ghost
-  to = (((κ′, tt), (q′, tt), tt, (h, tt), (T′.lowered h ∷ [], tt)), tt)
+  to = (((κ′, tt), (q′, tt), tt, (h, tt), (mach h ∷ [], tt)), tt)
 
   goes : ent 𝓤 (⋆ 𝓤 H A (‵ (Own h) ∷ (‵ (flft κ′ q′) ⊛ ‵ ftrue) ∷ [])) (Peek 𝓤 H A at-mem run .pre to)
   goes = qed W (‵ (Own h) ∷ (‵ (flft κ′ q′) ⊛ ‵ ftrue) ∷ []) ∵ nothing ! $ move ! (1 ∷ 0 ∷ []) $ fjoin ! $ move ! (1 ∷ 0 ∷ []) $ join ! $ frame ! $ done !
@@ -132,10 +135,10 @@ module _ {M : Type 1} (𝓤 : URA M) (H : Heap 𝓤) (A : Atoms 𝓤) (W : Given
         alloc1 ! (λ l₀. alloc1 ! (λ l₁. alloc1 ! (λ l₂. alloc1 ! (λ l₃. alloc0 ! $ params1 ! $ pass1 ! (init ! 4 refl (tt, tt)) $ pass0 ! $
         move ! (9 ∷ []) $ fsplit ! $ fsplit3 ! $ drop ! $ move ! (11 ∷ []) $ split ! $ move ! (2 ∷ 3 ∷ 0 ∷ []) $
         opens ! tt (B κ′) {h = h} b o (λ vs. spelt ! (B κ′) (Is (B κ′)) (shows 𝓤 H A (B κ′)) (LL.vals (T.the-type (α κ′)) (T′.the-laws (α κ′))) (LL.tells (T.the-type (α κ′)) (T′.the-laws (α κ′))) fullShare h vs b o $
-        move ! (1 ∷ []) $ peeks ! (B κ′) (Is (B κ′)) (shows 𝓤 H A (B κ′)) h (T′.lowered h ∷ []) (λ was. move ! (1 ∷ 0 ∷ []) $
+        move ! (1 ∷ []) $ peeks ! (B κ′) (Is (B κ′)) (shows 𝓤 H A (B κ′)) h (mach h ∷ []) (λ was. move ! (1 ∷ 0 ∷ []) $
         -- [the struct's cell; what a WalBlobReader owns; the open borrow; obs; auth; 'a's token; true; _3; …; _2; …; _1; …; room for _0; …]
         assigns ! (of-opd ! (load ! (from ! (hop ! (look ! 11 refl) (stop !))) (look-raw ! 0 refl))) (from ! (stop !)) (init ! 7 refl (LL.lawful (T.the-type αᵉ) (T′.the-laws αᵉ) 𝓤 H A W .typed h _ was .0)) $
-        move ! (1 ∷ []) $ use1 W (‵ (Own h) ⊛ ‵ (Own h)) (LL.copy (T.the-type (α κ′)) (T′.the-copy (α κ′)) 𝓤 H A W .twice h (T′.lowered h ∷ [])) $ split ! $
+        move ! (1 ∷ []) $ use1 W (‵ (Own h) ⊛ ‵ (Own h)) (LL.copy (T.the-type (α κ′)) (T′.the-copy (α κ′)) 𝓤 H A W .twice h (mach h ∷ [])) $ split ! $
         move ! (0 ∷ 6 ∷ []) $ use2 W (raw (Peek 𝓤 H A at-mem run .pre to)) goes $
         calls-at ! fm (Peek 𝓤 H A at-mem run) known to (and-then ! (load ! (from ! (stop !)) (look ! 7 refl)) (no-more !)) (λ u.
         use1 W (later (some (λ (r : WalEntry). ((‵ (flft κ′ q′) ⊛ ‵ ftrue) ⊛ ‵ (S.the-row .own r (u ∷ []))) ⊛ raw (ensured 𝓤 H A peek.ended (peek.clauses 𝓤 H A at-mem run) (κ′, tt) (h, tt) tt r)))) (id⊢ 𝓤 _) $ await ! tt $ pick ! (λ r.
@@ -146,7 +149,7 @@ module _ {M : Type 1} (𝓤 : URA M) (H : Heap 𝓤) (A : Atoms 𝓤) (W : Given
         rewrite ! 10 (λ (w : Val). ‵ (fat fullShare S′.mir l₂ 0 w)) (ap only (LL.tells S.the-type S′.the-laws r _ is)) refl $ rewrite ! 0 (λ (us : List Val). ‵ (S.the-row .own r us)) (LL.tells S.the-type S′.the-laws r _ is) refl $
         assigns ! (of-opd ! (load ! (from ! (fld ! refl (stop !))) (look-in ! 10 (sub ! 5 refl (whole !))))) (from ! (hop ! (look ! 12 refl) (fld ! refl (stop !)))) (store-in ! 3 (sub ! 1 refl (whole !)) (tt, record { fits = small r u is })) $
         assigns ! (of-opd ! (load ! (from ! (stop !)) (look ! 10 refl))) (from ! (stop !)) (init ! 14 refl (LL.lawful S.the-type S′.the-laws 𝓤 H A W .typed r _ (subst (Is S.the-row r) (LL.tells S.the-type S′.the-laws r _ is) is) .0)) $
-        move ! (2 ∷ []) $ use1 W (‵ (Own (h′ (r .next)))) (again (r .next) (small r u is)) $ move ! (3 ∷ 0 ∷ 4 ∷ 5 ∷ 6 ∷ []) $ closes ! tt (B κ′) (h′ (r .next)) (T′.lowered (h′ (r .next)) ∷ []) b o $
+        move ! (2 ∷ []) $ use1 W (‵ (Own (h′ (r .next)))) (again (r .next) (small r u is)) $ move ! (3 ∷ 0 ∷ 4 ∷ 5 ∷ 6 ∷ []) $ closes ! tt (B κ′) (h′ (r .next)) (mach (h′ (r .next)) ∷ []) b o $
         returns ! (look ! 12 refl) $ forget ! 6 refl $ forget ! 8 refl $ forget ! 10 refl $ forget ! 12 refl $
         move ! (12 ∷ 13 ∷ []) $ free1 ! $ move ! (10 ∷ 11 ∷ []) $ free1 ! $ move ! (8 ∷ 9 ∷ []) $ free1 ! $ move ! (6 ∷ 7 ∷ []) $ free1 ! $ free0 ! $ keep ! (0 ∷ 1 ∷ 2 ∷ 4 ∷ 3 ∷ []) $ by ! (exits r e)))))))))))
       where
