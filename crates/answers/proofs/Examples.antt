@@ -1,7 +1,8 @@
--- 01, 'Refusal numbers': every refusal with its number, and every case of the shared answers, in literals. Assumes nothing.
+-- 01, 'Refusal numbers': every refusal with its number, and every case of the shared answers, in literals. Assumes
+-- nothing.
 use mathlib.Core.Path.{_≡_, refl}
 use mathlib.Core.Bool.{true, false}
-use mathlib.Core.List.{List, [], _∷_, map}
+use mathlib.Core.List.{[], _∷_, map}
 use Prim.Native.Nat.{ℕ}
 use Rattle.answers.specs.Refusals.{numberOf}
 use Rattle.answers.specs.Answers.{given, refused, outcomeSaid, numberSaid, truthSaid, accepted}

@@ -1,6 +1,6 @@
 -- 01, 'Log': "Little-endian": numbers and blocks out of a slice and into one, in literals. Assumes nothing.
 use mathlib.Core.Path.{_≡_, refl}
-use mathlib.Core.List.{List, [], _∷_, map}
+use mathlib.Core.List.{List, [], _∷_}
 use Prim.Native.Nat.{ℕ, _+_, _*_, _-_, _^_}
 use Rattle.blocks.specs.Blocks.{le, bytesOf, block, put, tabulate}
 
@@ -12,7 +12,8 @@ pub bytes : bytesOf 4 0x12345678 ∷ bytesOf 8 0x12345678 ∷ bytesOf 8 (2 ^ 64 
     ≡ (0x78 ∷ 0x56 ∷ 0x34 ∷ 0x12 ∷ []) ∷ (0x78 ∷ 0x56 ∷ 0x34 ∷ 0x12 ∷ 0 ∷ 0 ∷ 0 ∷ 0 ∷ []) ∷ (0xFF ∷ 0xFF ∷ 0xFF ∷ 0xFF ∷ 0xFF ∷ 0xFF ∷ 0xFF ∷ 0xFF ∷ []) ∷ []
 bytes = refl
 
--- out of six bytes and into them, at the last place that will do and at one more: "past the slice's end zeros are read and nothing is written"
+-- out of six bytes and into them, at the last place that will do and at one more: "past the slice's end zeros are read
+-- and nothing is written"
 abbrev six : List ℕ
 six = 1 ∷ 2 ∷ 3 ∷ 4 ∷ 5 ∷ 6 ∷ []
 

@@ -1,12 +1,12 @@
 -- 01, 'Table image': what the calls on places answer, each refusal with its number, in literals. Assumes nothing.
 use mathlib.Core.Path.{_≡_, refl}
 use mathlib.Core.Bool.{true, false}
-use mathlib.Core.List.{List, [], _∷_, map}
+use mathlib.Core.List.{[], _∷_, map}
 use Rattle.answers.specs.Answers.{given, refused}
 use Rattle.ht_file.specs.Places.{countAllowed, tagPages, tagsLength, imageLength, bucketPage, pageStart, tagsFit, imageFits, ifCount, pageOf}
 
--- tag pages of 0, 1, 4,096, 4,097, 1,048,576 and 1,048,577 buckets; lengths of 0, 1, 3, 4,097, 1,048,576 and 1,048,577; pages of a first and a
--- last bucket, of one at n, of one beyond the limit, and of none
+-- tag pages of 0, 1, 4,096, 4,097, 1,048,576 and 1,048,577 buckets; lengths of 0, 1, 3, 4,097, 1,048,576 and 1,048,577;
+-- pages of a first and a last bucket, of one at n, of one beyond the limit, and of none
 pub numbers : map (λ n. ifCount n (tagPages n)) (0 ∷ 1 ∷ 4096 ∷ 4097 ∷ 1048576 ∷ 1048577 ∷ [])
     ∷ map (λ n. ifCount n (imageLength n)) (0 ∷ 1 ∷ 3 ∷ 4097 ∷ 1048576 ∷ 1048577 ∷ [])
     ∷ (pageOf 3 0 ∷ pageOf 3 2 ∷ pageOf 3 3 ∷ pageOf 4097 4096 ∷ pageOf 1048576 1048576 ∷ pageOf 1048577 0 ∷ pageOf 0 0 ∷ []) ∷ []

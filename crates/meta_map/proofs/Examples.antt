@@ -1,5 +1,5 @@
--- 01, 'Tags': a byte's kind, the full tags of 01's four hashes, and what the calls on lent tags answer, each refusal with its number, in
--- literals. Assumes nothing.
+-- 01, 'Tags': a byte's kind, the full tags of 01's four hashes, and what the calls on lent tags answer, each refusal
+-- with its number, in literals. Assumes nothing.
 use mathlib.Core.Path.{_≡_, refl}
 use mathlib.Core.Bool.{true, false}
 use mathlib.Core.List.{List, [], _∷_, map}

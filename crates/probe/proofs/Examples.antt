@@ -1,5 +1,5 @@
--- 01, 'Path': what probing on, lookup and allocation answer, each answer and each refusal, in literals; and a table on which a page is stored
--- and found. Assumes nothing.
+-- 01, 'Path': what probing on, lookup and allocation answer, each answer and each refusal, in literals; and a table on
+-- which a page is stored and found. Assumes nothing.
 use mathlib.Core.Path.{_≡_, refl}
 use mathlib.Core.List.{List, [], _∷_, _++_, map}
 use Prim.Native.Nat.{ℕ, zero, suc, _<_}
@@ -25,7 +25,8 @@ pub paths : visits 8 8 0 8 ∷ visits 5 5 0 5 ∷ [] ≡ (0 ∷ 1 ∷ 3 ∷ 6 �
 unfolding visits
 paths = refl
 
--- hash 0 in two buckets: from visit 0 on; from visit 1 on, where "the path goes 1, 1, 0"; visit 5 taken mod 4; and another table's tags
+-- hash 0 in two buckets: from visit 0 on; from visit 1 on, where "the path goes 1, 1, 0"; visit 5 taken mod 4; and
+-- another table's tags
 pub probes : probeAnswer (tags2 0x00 0x80) 2 0 0 ∷ probeAnswer (tags2 0x7F 0x80) 2 0 0 ∷ probeAnswer (tags2 0x80 0x00) 2 0 0 ∷ probeAnswer (tags2 0x01 0x81) 2 0 0
     ∷ probeAnswer (tags2 0x00 0x01) 2 0 1 ∷ probeAnswer (tags2 0x80 0x01) 2 0 1 ∷ probeAnswer (tags2 0x7F 0x01) 2 0 5 ∷ probeAnswer (tags2 0x00 0x80) 4097 0 0 ∷ []
     ≡ given (emptyAt 0 0) ∷ given (tombstoneAt 0 0) ∷ given (hitAt 0 0) ∷ given closed
@@ -68,8 +69,8 @@ pub said : (map probedSaid (probed.Empty 1 2 ∷ probed.Tombstone 3 4 ∷ probed
     × (map allocatedSaid (allocated.At 1 ∷ allocated.Refused PathCrowded ∷ allocated.Refused PathClosed ∷ []) ≡ given 1 ∷ refused 10 ∷ refused 11 ∷ [])
 said = (refl, refl, refl)
 
--- a table that meets every premise of `found-after-allocation`: n=3, hash 0, tags 81 7F 00, of which bucket 1 is given; then its image, all pages
--- zero, in which bucket 1 alone has the tag 80
+-- a table that meets every premise of `found-after-allocation`: n=3, hash 0, tags 81 7F 00, of which bucket 1 is given;
+-- then its image, all pages zero, in which bucket 1 alone has the tag 80
 abbrev threeTags : List ℕ
 threeTags = 0x81 ∷ 0x7F ∷ 0x00 ∷ replicate 4093 0
 

@@ -66,7 +66,7 @@ holds-page img n h id b e =
     let q = both-hold (isHit h (getD img b 0)) (sameBytes (pageEnd img n b) id) e in
     (eqb-true (getD img b 0) (fullTag h) (q .0), same-equal (pageEnd img n b) id (q .1))
 
-page-holds : (img : List ℕ) (n h : ℕ) (id : List ℕ) (b : ℕ) → HasPage img n h id b → holds img n h id b ≡ true
+pub page-holds : (img : List ℕ) (n h : ℕ) (id : List ℕ) (b : ℕ) → HasPage img n h id b → holds img n h id b ≡ true
 page-holds img n h id b q = rw (eq-eqb (getD img b 0) (fullTag h) (q .0)) (equal-same (pageEnd img n b) id (q .1))
 
 module _ (img : List ℕ) (n h : ℕ) (id : List ℕ) where

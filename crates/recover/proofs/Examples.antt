@@ -1,27 +1,79 @@
--- 01, 'Checked by hand': a clear replayed under its own sync number and under another; and a power cut that demand 3
--- speaks of; by the laws of replay. Assumes nothing.
+-- 01, 'Replay' and 'Checked by hand': what replay and its step answer, each answer and each refusal, on literals; a
+-- clear replayed under its own sync number and under another, and a power cut that demand 3 speaks of, by the laws of
+-- replay. Assumes nothing.
 use mathlib.Core.Path.{_≡_, refl, sym, ap, ap₂, _∙_}
-use mathlib.Core.Bool.{true}
+use mathlib.Core.Bool.{Bool, true, cond, _&&_}
 use mathlib.Core.Logic.{_⊎_, inl, inr}
-use mathlib.Core.List.{List, [], _∷_, map}
-use Prim.Native.Nat.{ℕ, zero, suc, _<_}
+use mathlib.Core.List.{List, [], _∷_, _++_, map}
+use Prim.Native.Nat.{ℕ, zero, suc, _<_, _-_, _^_}
 use native.Mathlib.Omega.{arith}
+use lib.Dec.{ltb}
 use lib.ListN.{length, getD, take, replicate, length-replicate, getD-replicate}
-use Rattle.answers.specs.Answers.{Answer, given}
+use borrow.Author.Tests.{ltb-true}
+use Rattle.answers.specs.Answers.{Answer, given, refused}
+use Rattle.answers.specs.declared.Refusal.the-variants.{LogCut, BucketOutside}
+use Rattle.blocks.specs.Blocks.{block}
 use Rattle.ht_file.specs.Places.{imageFits}
+use Rattle.ht_file.proofs.Laws.{both-hold}
 use Rattle.page_diff.specs.Diff.{digit, marked, slotsBelow}
-use Rattle.wal.specs.Log.{Entry, clear, update}
-use Rattle.wal.specs.Reader.{Reading}
+use Rattle.wal.specs.Log.{Entry, clear, update, flat, recordOf, recordsOf}
+use Rattle.wal.specs.Reader.{Reading, startOf, nextAt, readIn}
 use Rattle.wal.specs.Run.{logOf}
 use Rattle.wal.proofs.RoundTrip.{AllWellFormed, none, more, log-length, start-back, entries-back}
-use Rattle.recover.specs.Places.{Step, withHashes, replayed, valueAt, namedIn, entryNames, entryGives}
-use Rattle.recover.specs.Replay.{Did, stale, applied, allInside, updatesIn, replayAnswer, replayImage, stepsOf, OnlyNamed}
+use Rattle.recover.specs.Places.{Step, withHashes, names, gives, replayed, valueAt, namedIn, entryNames, entryGives}
+use Rattle.recover.specs.Replay.{Did, nothing, stale, applied, allInside, updatesIn, checkAnswer, replayAnswer, replayImage, stepsOf, Went, cleared, updated, atEnd, stepAnswer, stepImage, steppedSaid, recoveredSaid, OnlyNamed}
 use Rattle.recover.specs.Calls.{calls, Cut, uncut, cut-inside}
 use Rattle.recover.proofs.Acceptance.{replay-accepts, replay-applies}
 use Rattle.recover.proofs.Cuts.{calls-make, cut-stopped}
-use Rattle.recover.proofs.Demand3.{replayed-at, stopped-only}
+use Rattle.recover.proofs.Demand3.{replayed-at, stepped-at, stopped-only}
 use Rattle.recover.proofs.OneImage.{applied-image, demand-3}
 use Rattle.recover.proofs.Replays.{replay-stale}
+use Rattle.recover.proofs.Steps.{step-taken}
+use Rattle.recover.specs.declared.Stepped.the-variants as S
+use Rattle.recover.specs.declared.Recovered.the-variants as R
+
+-- a page of log of sync 7 that goes on with these bytes, and ends in zeros
+abbrev page : List ℕ → List ℕ
+page bs = 1 ∷ 7 ∷ 0 ∷ 0 ∷ 0 ∷ (bs ++ replicate (4091 - length bs) 0)
+
+-- a clear of a bucket and the end; an update of bucket 0 with no slot and the end; the beginning of an update whose
+-- diff's bytes are these
+abbrev aClear : ℕ → List ℕ
+aClear b = 3 ∷ b ∷ 0 ∷ 0 ∷ 0 ∷ 0 ∷ 0 ∷ 0 ∷ 0 ∷ 2 ∷ []
+
+abbrev anUpdate : List ℕ
+anUpdate = 4 ∷ (replicate 64 0 ++ (2 ∷ []))
+
+abbrev aDiff : List ℕ → List ℕ
+aDiff bs = 4 ∷ (replicate 32 0 ++ bs)
+
+-- "Replay: 1, nothing, 5, 7, stale, then the first bad entry (in an update: 6 up to the diff, 4, 6, 9), last the hash
+-- count 2", one bucket
+abbrev replay : List ℕ → ℕ → List ℕ → Answer Did
+replay log sync hashes = replayAnswer 1 (replicate 8192 0) log sync hashes
+
+pub answers : (replayAnswer 0 [] [] 7 [] ∷ replayAnswer 1 (replicate 8191 0) [] 7 [] ∷ replay [] 7 [] ∷ replay (replicate 4095 1) 7 [] ∷ replay (replicate 4096 2) 7 [] ∷ replay (page (9 ∷ [])) 8 [] ∷ [])
+    ∷ (replay (page (9 ∷ [])) 7 [] ∷ replay (page (aDiff (replicate 15 0 ++ (0x40 ∷ [])))) 7 [] ∷ replay (page (aDiff (replicate 15 0xFF ++ (0x3F ∷ [])))) 7 [] ∷ replay (page (aClear 1)) 7 [] ∷ [])
+    ∷ (replay (page (aClear 0)) 7 (0 ∷ []) ∷ replay (page anUpdate) 7 [] ∷ replay (page anUpdate) 7 (0 ∷ []) ∷ replay (page (aClear 0)) 7 [] ∷ replay (page (2 ∷ [])) 7 [] ∷ []) ∷ []
+    ≡ (refused 1 ∷ refused 1 ∷ given nothing ∷ refused 5 ∷ refused 7 ∷ given stale ∷ []) ∷ (refused 8 ∷ refused 4 ∷ refused 6 ∷ refused 9 ∷ [])
+    ∷ (refused 2 ∷ refused 2 ∷ given applied ∷ given applied ∷ given applied ∷ []) ∷ []
+unfolding replayAnswer startOf checkAnswer allInside updatesIn readIn nextAt block marked slotsBelow
+answers = refl
+
+-- the step: 1, 6, 8, 4, 9; a clear, an update and the end
+abbrev stepAt : List ℕ → ℕ → Answer Went
+stepAt log at = stepAnswer 1 (replicate 8192 0) log at
+
+pub steps : (stepAnswer 1 (replicate 8191 0) (page (aClear 0)) 5 ∷ stepAt (page (aClear 0)) 4096 ∷ stepAt (page (aClear 0)) 0 ∷ stepAt (page (aDiff (replicate 15 0 ++ (0x80 ∷ [])))) 5 ∷ stepAt (page (aClear 1)) 5 ∷ [])
+    ∷ (stepAt (page (aClear 0)) 5 ∷ stepAt (page anUpdate) 5 ∷ stepAt (page (aClear 0)) 14 ∷ []) ∷ []
+    ≡ (refused 1 ∷ refused 6 ∷ refused 8 ∷ refused 4 ∷ refused 9 ∷ []) ∷ (given (cleared 14) ∷ given (updated 70) ∷ given atEnd ∷ []) ∷ []
+unfolding stepAnswer nextAt block marked slotsBelow
+steps = refl
+
+-- each case of the code's answers
+pub said : (map recoveredSaid (R.Nothing ∷ R.Stale ∷ R.Applied ∷ R.Refused BucketOutside ∷ []) ≡ given nothing ∷ given stale ∷ given applied ∷ refused 9 ∷ [])
+    × (map steppedSaid (S.Cleared 14 ∷ S.Updated 70 ∷ S.End ∷ S.Refused LogCut ∷ []) ≡ given (cleared 14) ∷ given (updated 70) ∷ given atEnd ∷ refused 6 ∷ [])
+said = (refl, refl)
 
 -- the log's one entry
 abbrev entries : List Entry
@@ -137,18 +189,43 @@ cut-left = cut-inside zeros cutImage 0 uncut (record { long = ap suc (length-rep
 pub cut-only : OnlyNamed 1 (stepsOf cutLog (0 ∷ [])) zeros cutImage
 cut-only = stopped-only 1 (stepsOf cutLog (0 ∷ [])) zeros (cut-stopped 1 zeros cutLog 7 (0 ∷ []) cut-accepted cut-left)
 
--- replay from there: applied; the clear's tag, the update's node in slot 0, the table's zeros in slot 1, the update's id
+-- replay from there: applied; the clear's tag, the update's node in slot 0, the table's zeros in slot 1, the update's
+-- elided children and id
 cut-value : (j : ℕ) → j < 8192 → getD (replayImage 1 cutImage cutLog 7 (0 ∷ [])) j 0 ≡ valueAt 1 (withHashes cutEntries (0 ∷ [])) (getD zeros j 0) j
 cut-value j h =
     ap (λ (l : List ℕ). getD l j 0) (demand-3 1 zeros cutLog 7 (0 ∷ []) cut-accepted cutImage cut-only .1 ∙ applied-image 1 zeros cutLog 7 (0 ∷ []) cut-accepted)
     ∙ ap (λ (ss : List Step). getD (replayed 1 ss zeros) j 0) cut-steps ∙ replayed-at 1 (withHashes cutEntries (0 ∷ [])) zeros j (omega (arith, long))
 
-pub cut-ends : (replayAnswer 1 cutImage cutLog 7 (0 ∷ []) ≡ given applied) × (map (λ j. getD (replayImage 1 cutImage cutLog 7 (0 ∷ [])) j 0) (0 ∷ 4096 ∷ 4128 ∷ 8191 ∷ []) ≡ 0x7F ∷ 5 ∷ 0 ∷ 1 ∷ [])
+-- two functions that agree below 8,192 give the same list of places there
+abbrev allBelow : List ℕ → Bool
+allBelow [] = true
+allBelow (j ∷ js) = ltb j 8192 && allBelow js
+
+same-places : (f g : ℕ → ℕ) → ((j : ℕ) → j < 8192 → f j ≡ g j) → (js : List ℕ) → allBelow js ≡ true → map f js ≡ map g js
+same-places f g e [] h = refl
+same-places f g e (j ∷ js) h =
+    let b = both-hold (ltb j 8192) (allBelow js) h in
+    ap₂ (λ (v : ℕ) (vs : List ℕ). v ∷ vs) (e j (ltb-true j 8192 (b .0))) (same-places f g e js (b .1))
+
+-- the tag and a byte of the padding; the first bytes of slots 0 and 1; of the page the last byte that is nobody's, the
+-- first and last of the elided children (4056), the first and last of the page id (4064)
+abbrev pub places : List ℕ
+places = 0 ∷ 1 ∷ 4096 ∷ 4128 ∷ 8151 ∷ 8152 ∷ 8159 ∷ 8160 ∷ 8191 ∷ []
+
+pub cut-ends : (replayAnswer 1 cutImage cutLog 7 (0 ∷ []) ≡ given applied)
+    × (map (λ j. getD (replayImage 1 cutImage cutLog 7 (0 ∷ [])) j 0) places ≡ 0x7F ∷ 0 ∷ 5 ∷ 0 ∷ 0 ∷ 2 ∷ 2 ∷ 1 ∷ 1 ∷ [])
 unfolding withHashes valueAt namedIn entryNames entryGives slotsBelow marked digit
 cut-ends = (
   demand-3 1 zeros cutLog 7 (0 ∷ []) cut-accepted cutImage cut-only .0,
-  four (cut-value 0 (omega arith)) (cut-value 4096 (omega arith)) (cut-value 4128 (omega arith) ∙ getD-replicate {A = ℕ} 8192 4128 0 0 (omega arith)) (cut-value 8191 (omega arith)),
+  same-places (λ j. getD (replayImage 1 cutImage cutLog 7 (0 ∷ [])) j 0) (λ j. valueAt 1 (withHashes cutEntries (0 ∷ [])) (getD zeros j 0) j) cut-value places refl,
 )
-  where
-    four : {a b c d x y z w : ℕ} → a ≡ x → b ≡ y → c ≡ z → d ≡ w → a ∷ b ∷ c ∷ d ∷ [] ≡ x ∷ y ∷ z ∷ w ∷ []
-    four p q r s = cc
+
+-- the step over the update alone, with a hash whose tag is 81: its own tag instead of the clear's
+pub step-ends : map (λ j. getD (stepImage 1 zeros cutLog 5 (2 ^ 57)) j 0) places ≡ 0x81 ∷ 0 ∷ 5 ∷ 0 ∷ 0 ∷ 2 ∷ 2 ∷ 1 ∷ 1 ∷ []
+unfolding entryNames entryGives slotsBelow marked digit nextAt block recordsOf recordOf flat
+step-ends =
+    let e = update (replicate 32 1) (1 ∷ 0 ∷ []) cutNodes (replicate 8 2) 0 in
+    let s : Step = record { entry = e; hash = 2 ^ 57 } in
+    let stepped-image = step-taken 1 zeros cutLog 5 (2 ^ 57) (ap (imageFits 1) long) e 102 refl (omega arith) .1 in
+    same-places (λ j. getD (stepImage 1 zeros cutLog 5 (2 ^ 57)) j 0) (λ j. cond (names 1 s j) (gives 1 s j) (getD zeros j 0))
+    (λ j h. ap (λ (l : List ℕ). getD l j 0) (sym stepped-image) ∙ stepped-at 1 s zeros j (omega (arith, long))) places refl

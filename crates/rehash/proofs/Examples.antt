@@ -1,4 +1,5 @@
--- 01, 'Growth': what the marker's calls, the pending decision and the copy answer, each answer and each refusal, in literals. Assumes nothing.
+-- 01, 'Growth': what the marker's calls, the pending decision and the copy answer, each answer and each refusal, in
+-- literals. Assumes nothing.
 use mathlib.Core.Path.{_≡_, refl}
 use mathlib.Core.List.{List, [], _∷_, _++_, map}
 use Prim.Native.Nat.{ℕ, _+_, _^_}
@@ -32,7 +33,8 @@ pub read-back : map readAnswer (marker 0x04030201 0x08070605 ∷ take 15 (marker
 unfolding readAnswer
 read-back = refl
 
--- "new, new: tidy; old, new: update meta, then tidy; old, old: tidy. Old 0 is allowed here"; "1 for any of the three counts above the limit, 17, 18"
+-- "new, new: tidy; old, new: update meta, then tidy; old, old: tidy. Old 0 is allowed here"; "1 for any of the three
+-- counts above the limit, 17, 18"
 pub pendings : (pendingAnswer 1 3 3 16384 ∷ pendingAnswer 1 3 1 16384 ∷ pendingAnswer 1 3 1 8192 ∷ pendingAnswer 0 1 0 8192 ∷ pendingAnswer 0 1 0 0 ∷ [])
     ∷ (pendingAnswer 1048577 1 1 0 ∷ pendingAnswer 1 1048577 1 0 ∷ pendingAnswer 1 1 1048577 0 ∷ pendingAnswer 3 3 3 16384 ∷ pendingAnswer 3 1 3 16384 ∷ [])
     ∷ (pendingAnswer 1 3 3 8192 ∷ pendingAnswer 1 3 2 16384 ∷ pendingAnswer 1 3 1 12288 ∷ []) ∷ []
@@ -62,7 +64,8 @@ pub images : growthImage hitLimit (oneOld 0x80) 1 twoNew 2 (1 ∷ []) ∷ growth
 unfolding grownTo
 images = refl
 
--- four full buckets into five, where the path of each hash is 0 1 3 for ever: the fourth finds none; its tag is there or not
+-- four full buckets into five, where the path of each hash is 0 1 3 for ever: the fourth finds none; its tag is there
+-- or not
 abbrev fourOld : List ℕ
 fourOld = 0x80 ∷ 0x80 ∷ 0x80 ∷ 0x80 ∷ replicate 20476 5
 

@@ -1,6 +1,8 @@
 pub mod Accepted
 pub mod Again
+pub mod Examples
 pub mod Front
+pub mod Labels
 pub mod LiveTags
 pub mod Logged
 pub mod Occupied

@@ -1,5 +1,6 @@
--- 01, 'Audit': what an audit answers, each refusal with its number and a table that passes, on literals: by computation, and by the laws of
--- reaching where a path is walked (its 100,000 visits are not computed). Assumes nothing.
+-- 01, 'Audit': what an audit answers, each refusal with its number and a table that passes, on literals: by
+-- computation, and by the laws of reaching where a path is walked (its 100,000 visits are not computed). Assumes
+-- nothing.
 use mathlib.Core.Path.{_≡_, refl, ap, ap₂, _∙_}
 use mathlib.Core.Bool.{Bool, true, false, cond}
 use mathlib.Core.List.{List, [], _∷_, map}

@@ -1,5 +1,5 @@
--- 01, 'Log', 'Reader' and 'Writer': the bytes and sizes of each record, what stands at a position, and what a writer answers, each refusal with
--- its number, in literals. Assumes nothing.
+-- 01, 'Log', 'Reader' and 'Writer': the bytes and sizes of each record, what stands at a position, and what a writer
+-- answers, each refusal with its number, in literals. Assumes nothing.
 use mathlib.Core.Path.{_≡_, refl}
 use mathlib.Core.List.{List, [], _∷_, _++_, map}
 use Prim.Native.Nat.{ℕ, _^_}
@@ -9,7 +9,7 @@ use Rattle.blocks.specs.Blocks.{block, put}
 use Rattle.page_diff.specs.Diff.{marked, slotsBelow}
 use Rattle.wal.specs.Log.{Entry, clear, update, markSize, startRecord, startSize, flat, recordOf, clearSize, updateSize, recordsOf, finishedLength, endRecord}
 use Rattle.wal.specs.Reader.{startOf, next, ended, stopped, nextAt, Reading, readIn, readLog}
-use Rattle.wal.specs.Writer.{capacity, position, beginAnswer, beginLog, beginWriter, clearAnswer, updateAnswer, recordLog, recordWriter, finishAnswer, finishLog, finishWriter}
+use Rattle.wal.specs.Writer.{beginAnswer, beginLog, beginWriter, clearAnswer, updateAnswer, recordLog, recordWriter, finishAnswer, finishLog, finishWriter}
 use Rattle.wal.specs.Run.{logOf}
 use Rattle.wal.specs.declared.Writer.the-variants.{Fresh, Open, Finished}
 
@@ -54,8 +54,8 @@ starts = refl
 abbrev toDiff : ℕ → List ℕ
 toDiff b = 4 ∷ (replicate 47 0 ++ (b ∷ []))
 
--- entries, the end; a start and a zero later on are 8; nothing left is 6; a clear that is cut, an update cut before its diff and after it 6,
--- with a reserved bit 4
+-- entries, the end; a start and a zero later on are 8; nothing left is 6; a clear that is cut, an update cut before its
+-- diff and after it 6, with a reserved bit 4
 pub nexts : map (nextAt log) (5 ∷ 14 ∷ 143 ∷ 0 ∷ 144 ∷ 4096 ∷ []) ∷ map (λ l. nextAt l 0) (take 8 (3 ∷ replicate 8 0) ∷ take 48 (toDiff 0x40) ∷ toDiff 0x40 ∷ toDiff 0x80 ∷ toDiff 0x20 ∷ []) ∷ []
     ≡ (next (clear 3) 14 ∷ next entry 143 ∷ ended ∷ stopped 8 ∷ stopped 8 ∷ stopped 6 ∷ []) ∷ (stopped 6 ∷ stopped 6 ∷ stopped 4 ∷ stopped 4 ∷ stopped 6 ∷ []) ∷ []
 unfolding nextAt block marked slotsBelow
@@ -72,7 +72,8 @@ read = refl
 abbrev slice : ℕ → List ℕ
 slice n = replicate n 6
 
--- "Begin works in any state and needs capacity 4,096"; a clear and an update taken exactly where position + size + 1 fits; "12, 2, 4, 13"
+-- "Begin works in any state and needs capacity 4,096"; a clear and an update taken exactly where position + size + 1
+-- fits; "12, 2, 4, 13"
 pub writers : (map (λ n. beginAnswer (slice n)) (4095 ∷ 4096 ∷ 8191 ∷ []) ∷ map (clearAnswer (slice 8191)) (Fresh ∷ Finished 4096 ∷ Open 4086 ∷ Open 4087 ∷ [])
     ∷ (updateAnswer (slice 4096) Fresh (1 ∷ 0 ∷ []) 2 ∷ updateAnswer (slice 4096) (Open 5) (1 ∷ (2 ^ 62) ∷ []) 1 ∷ updateAnswer (slice 4096) (Open 5) (1 ∷ (2 ^ 62) ∷ []) 2
     ∷ updateAnswer (slice 4096) (Open 3998) (1 ∷ 0 ∷ []) 1 ∷ updateAnswer (slice 4096) (Open 3999) (1 ∷ 0 ∷ []) 1 ∷ []) ∷ []
