@@ -14,11 +14,11 @@ use Rattle.wal.specs.Run.{logOf}
 use Rattle.wal.specs.declared.Writer.the-variants.{Fresh, Open, Finished}
 
 -- an update of bucket 9 with slots 0 and 125 marked
-abbrev entry : Entry
+abbrev pub entry : Entry
 entry = update (replicate 32 1) (1 ∷ (2 ^ 61) ∷ []) (replicate 32 2 ∷ replicate 32 3 ∷ []) (replicate 8 4) 9
 
 -- its bytes: the tag 4, the id, the diff, two nodes, the elided children, the bucket
-abbrev entryBytes : List ℕ
+abbrev pub entryBytes : List ℕ
 entryBytes =
     4
     ∷ (replicate 32 1
@@ -38,7 +38,7 @@ unfolding recordOf flat
 sizes = refl
 
 -- a log of sync 7: a clear of bucket 3 at 5, the update at 14, the end at 143
-abbrev log : List ℕ
+abbrev pub log : List ℕ
 log = 1 ∷ 7 ∷ 0 ∷ 0 ∷ 0 ∷ 3 ∷ 3 ∷ 0 ∷ 0 ∷ 0 ∷ 0 ∷ 0 ∷ 0 ∷ 0 ∷ (entryBytes ++ (2 ∷ replicate 3952 0))
 
 pub log-bytes : logOf 7 (clear 3 ∷ entry ∷ []) ≡ log
@@ -51,7 +51,7 @@ unfolding startOf block
 starts = refl
 
 -- an update up to its diff, whose last byte is b
-abbrev toDiff : ℕ → List ℕ
+abbrev pub toDiff : ℕ → List ℕ
 toDiff b = 4 ∷ (replicate 47 0 ++ (b ∷ []))
 
 -- entries, the end; a start and a zero later on are 8; nothing left is 6; a clear that is cut, an update cut before its
@@ -69,7 +69,7 @@ unfolding readIn nextAt block marked slotsBelow
 read = refl
 
 -- a slice of so many bytes
-abbrev slice : ℕ → List ℕ
+abbrev pub slice : ℕ → List ℕ
 slice n = replicate n 6
 
 -- "Begin works in any state and needs capacity 4,096"; a clear and an update taken exactly where position + size + 1

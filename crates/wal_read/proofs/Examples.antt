@@ -1,53 +1,62 @@
--- Readers that meet what `Readers` asks: one that stands at the end of its log, and one set on a log without a start. Assumes nothing.
+-- 01, 'Reader': what stands at a position of a log of literal bytes, its head and each of its fields, each refusal with
+-- its number. Assumes nothing.
 use mathlib.Core.Path.{_≡_, refl}
-use mathlib.Core.List.{List, [], _∷_, _++_}
-use Prim.Native.Nat.{ℕ}
-use lib.ListN.{replicate}
-use denote.Ref.{RefT}
-use Rattle.answers.specs.declared.Number.{Number}
-use Rattle.answers.specs.declared.Number.the-variants as num
-use Rattle.answers.specs.declared.Refusal.the-variants.{NoStart}
+use mathlib.Core.List.{List, [], _∷_, _++_, map}
+use Prim.Native.Nat.{_^_}
+use lib.ListN.{take, replicate}
+use Rattle.answers.specs.declared.Refusal.the-variants.{LogCut, TagUnknown}
 use Rattle.blocks.specs.Blocks.{block}
+use Rattle.page_diff.specs.Diff.{marked, slotsBelow}
 use Rattle.page_diff.specs.Pack.{packedBy}
-use Rattle.wal.specs.Log.{startRecord, endRecord}
-use Rattle.wal.specs.Reader.{startOf, nextAt}
-use Rattle.wal_read.specs.Entry.{rows}
-use Rattle.wal_read.specs.Set.{SetOn, Reads}
-use Rattle.wal_read.specs.declared.What.{What}
+use Rattle.page_diff.specs.declared.Packed.{Packed}
+use Rattle.wal.specs.Reader.{Next, nextAt}
+use Rattle.wal.proofs.Examples.{log, toDiff}
+use Rattle.wal_read.specs.Head.{aClear, anUpdate, theEnd, aRefusal, headOf, headSaid}
+use Rattle.wal_read.specs.Entry.{clears, updates, ends, refuses, whatOf, whatSaid, idOf, diffOf, elidedOf, rows, packedOf, nextOf, Taken}
+use Rattle.wal_read.specs.declared.Head.the-variants as head
 use Rattle.wal_read.specs.declared.What.the-variants as what
 use Rattle.wal_read.specs.declared.WalEntry.{WalEntry}
-use Rattle.wal_read.specs.declared.WalBlobReader.{WalBlobReader}
 
--- a log that is lent somewhere
-abbrev lent : List ℕ → RefT (List ℕ)
-lent log = record { ptr = (0, 0); name = 0; now = log }
+-- the clear at 5, the update at 14, the end at 143, a start where an entry should be; nothing left; a clear and an
+-- update cut short, reserved bits
+abbrev nexts : List Next
+nexts = map (nextAt log) (5 ∷ 14 ∷ 143 ∷ 0 ∷ 4096 ∷ []) ++ map (λ l. nextAt l 0) ((3 ∷ replicate 7 0) ∷ take 48 (toDiff 0x40) ∷ toDiff 0x40 ∷ toDiff 0x80 ∷ toDiff 0x20 ∷ [])
 
--- an entry that is no update
-abbrev bare : What → WalEntry
-bare w = record { what = w; id = replicate 32 0; diff = record { words = 0 ∷ 0 ∷ [] }; packed = packedBy (rows []) 0; elided = replicate 8 0; next = 5 }
+pub heads : map headOf nexts ≡ aClear 3 14 ∷ anUpdate 9 2 143 ∷ theEnd ∷ aRefusal 8 ∷ aRefusal 6 ∷ aRefusal 6 ∷ aRefusal 6 ∷ aRefusal 4 ∷ aRefusal 4 ∷ aRefusal 6 ∷ []
+unfolding nextAt block marked slotsBelow
+heads = refl
 
-abbrev reader : List ℕ → Number → WalBlobReader
-reader log n = record { log = lent log; at = 5; start = n }
+pub whats : map whatOf nexts ≡ clears 3 ∷ updates 9 ∷ ends ∷ refuses 8 ∷ refuses 6 ∷ refuses 6 ∷ refuses 6 ∷ refuses 4 ∷ refuses 4 ∷ refuses 6 ∷ []
+unfolding nextAt block marked slotsBelow
+whats = refl
 
--- sync 7 and no entry: set, it stands at the end, and is there again
-abbrev empty : List ℕ
-empty = startRecord 7 ++ endRecord 5
+-- of the clear, the update, the end and the first refusal: the fields, and where the reading goes on from position 77
+abbrev four : List Next
+four = take 4 nexts
 
-set-at-end : SetOn (lent empty) (reader empty (num.Is 7))
-unfolding block startOf
-set-at-end = record { log-is = refl; at-is = refl; start-is = refl }
+abbrev noNodes : Packed
+noNodes = packedBy (replicate 126 (replicate 32 0)) 0
 
-read-at-end : Reads (reader empty (num.Is 7)) (bare what.End) (reader empty (num.Is 7))
-unfolding nextAt
-read-at-end = record { entry-is = record { what-is = refl; id-is = refl; diff-is = refl; packed-is = refl; elided-is = refl; next-is = refl }; log-stays = refl; at-moves = refl; start-stays = refl }
+abbrev twoNodes : Packed
+twoNodes = packedBy (replicate 32 2 ∷ replicate 32 3 ∷ replicate 124 (replicate 32 0)) 2
 
--- no start: refused when set, and so at each call
-abbrev zeros : List ℕ
-zeros = replicate 4096 0
+pub fields : (map idOf four ∷ map diffOf four ∷ map elidedOf four ∷ [] ≡ (replicate 32 0 ∷ replicate 32 1 ∷ replicate 32 0 ∷ replicate 32 0 ∷ [])
+    ∷ ((0 ∷ 0 ∷ []) ∷ (1 ∷ (2 ^ 61) ∷ []) ∷ (0 ∷ 0 ∷ []) ∷ (0 ∷ 0 ∷ []) ∷ [])
+    ∷ (replicate 8 0 ∷ replicate 8 4 ∷ replicate 8 0 ∷ replicate 8 0 ∷ []) ∷ [])
+    × (map packedOf four ≡ noNodes ∷ twoNodes ∷ noNodes ∷ noNodes ∷ [])
+    × (map (λ n. nextOf n 77) four ≡ 14 ∷ 143 ∷ 77 ∷ 77 ∷ [])
+unfolding nextAt block marked slotsBelow rows
+fields = (refl, refl, refl)
 
-set-refused : SetOn (lent zeros) (reader zeros (num.Refused NoStart))
-unfolding startOf
-set-refused = record { log-is = refl; at-is = refl; start-is = refl }
+-- the whole entry that a call answers at 14
+abbrev answered : WalEntry
+answered = record { what = what.Update 9; id = replicate 32 1; diff = record { words = 1 ∷ (2 ^ 61) ∷ [] }; packed = twoNodes; elided = replicate 8 4; next = 143 }
 
-read-refused : Reads (reader zeros (num.Refused NoStart)) (bare (what.Refused NoStart)) (reader zeros (num.Refused NoStart))
-read-refused = record { entry-is = record { what-is = refl; id-is = refl; diff-is = refl; packed-is = refl; elided-is = refl; next-is = refl }; log-stays = refl; at-moves = refl; start-stays = refl }
+pub taken : Taken (nextAt log 14) 14 answered
+unfolding nextAt block marked slotsBelow rows
+taken = record { what-is = refl; id-is = refl; diff-is = refl; packed-is = refl; elided-is = refl; next-is = refl }
+
+-- each case of the code's answers
+pub said : (map headSaid (head.Clear 3 14 ∷ head.Update 9 2 143 ∷ head.End ∷ head.Refused TagUnknown ∷ []) ≡ aClear 3 14 ∷ anUpdate 9 2 143 ∷ theEnd ∷ aRefusal 8 ∷ [])
+    × (map whatSaid (what.Clear 3 ∷ what.Update 9 ∷ what.End ∷ what.Refused LogCut ∷ []) ≡ clears 3 ∷ updates 9 ∷ ends ∷ refuses 6 ∷ [])
+said = (refl, refl)

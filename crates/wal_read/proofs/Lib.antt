@@ -4,3 +4,4 @@ pub mod ReadLaws
 pub mod Answered
 pub mod Readers
 pub mod Examples
+pub mod SetExamples

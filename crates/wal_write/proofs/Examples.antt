@@ -1,18 +1,23 @@
--- 01, 'Checked by hand': "capacity 4,096: 454 clears fit, the next is 13", of any slice of that capacity and any buckets. Assumes nothing.
+-- 01, 'Writer': what each call that writes a record answers and leaves, each refusal with its number, in literals; and
+-- "capacity 4,096: 454 clears fit, the next is 13", of any slice of that capacity and any buckets. Assumes nothing.
 use mathlib.Core.Path.{_≡_, refl, ap, ap₂, _∙_}
 use mathlib.Core.Bool.{Bool, true, false, cond, _&&_}
-use mathlib.Core.List.{List, [], _∷_}
-use Prim.Native.Nat.{ℕ, suc, _+_, _*_, _≤_, _<_}
+use mathlib.Core.List.{List, [], _∷_, _++_}
+use Prim.Native.Nat.{ℕ, suc, _+_, _*_, _^_, _≤_, _<_}
 use native.Mathlib.Omega.{arith}
-use lib.ListN.{length}
+use lib.ListN.{length, replicate}
 use borrow.Author.Tests.{le-leb, lt-leb}
 use Rattle.answers.specs.Answers.{Answer, given, refused, accepted}
-use Rattle.wal.specs.Log.{clear, recordOf, startRecord}
-use Rattle.wal.specs.Writer.{capacity, position, beginAnswer, beginWriter, beginLog, clearAnswer}
+use Rattle.blocks.specs.Blocks.{block, put}
+use Rattle.page_diff.specs.Diff.{marked, slotsBelow}
+use Rattle.page_diff.specs.Pack.{tableOf}
+use Rattle.wal.specs.Log.{clear, flat, recordOf, startRecord}
+use Rattle.wal.specs.Writer.{capacity, position, beginAnswer, beginWriter, beginLog, clearAnswer, updateAnswer}
 use Rattle.wal.specs.declared.Writer.{Writer}
-use Rattle.wal.specs.declared.Writer.the-variants.{Open}
+use Rattle.wal.specs.declared.Writer.the-variants.{Fresh, Open, Finished}
+use Rattle.wal.proofs.Examples.{slice}
 use Rattle.wal.proofs.RoundTrip.{same-capacity}
-use Rattle.wal_write.specs.Calls.{clearWriter, clearLog}
+use Rattle.wal_write.specs.Calls.{roomIn, clearWriter, clearLog, updateWriter, updateLog, pageUpdateAnswer, pageUpdateWriter, pageUpdateLog, packIntoAnswer, packedInto}
 use Rattle.wal_write.proofs.CallLaws.{begin-given, clear-tests, taken, no-room}
 use Rattle.wal_write.proofs.WriterLaws.{same-length}
 
@@ -83,3 +88,51 @@ clears-by-hand s sync bs e n =
     } in
     let all = clears-fit bs (begun s sync) 5 4096 stands (omega arith) in
     (all .0, clear-refused (allCleared (begun s sync) bs) (5 + 9 * length bs) 4096 (all .1) (omega arith))
+
+-- ---- in literals: a page with 2s in slot 0, 4s for the elided children, 8s for the id; a table with two nodes and nines
+abbrev page : List ℕ
+page = replicate 32 2 ++ (replicate 4024 0 ++ (replicate 8 4 ++ replicate 32 8))
+
+abbrev table : List (List ℕ)
+table = replicate 32 7 ∷ replicate 32 8 ∷ replicate 124 (replicate 32 9)
+
+-- "12, 2, 4, 13", of an update that is lent its page
+pub page-updates : pageUpdateAnswer (slice 4096) Fresh (0 ∷ (2 ^ 62) ∷ []) [] ∷ pageUpdateAnswer (slice 4096) (Finished 4096) (1 ∷ 0 ∷ []) page ∷ pageUpdateAnswer (slice 4096) (Open 5) (0 ∷ (2 ^ 62) ∷ []) []
+    ∷ pageUpdateAnswer (slice 4096) (Open 5) (0 ∷ (2 ^ 62) ∷ []) page ∷ pageUpdateAnswer (slice 4096) (Open 5) (0 ∷ (2 ^ 63) ∷ []) page
+    ∷ pageUpdateAnswer (slice 4096) (Open 3999) (1 ∷ 0 ∷ []) page ∷ pageUpdateAnswer (slice 4096) (Open 3998) (1 ∷ 0 ∷ []) page ∷ []
+    ≡ refused 12 ∷ refused 12 ∷ refused 2 ∷ refused 4 ∷ refused 4 ∷ refused 13 ∷ given tt ∷ []
+unfolding pageUpdateAnswer marked slotsBelow
+page-updates = refl
+
+pub rooms : roomIn 8191 (Open 4086) 9 ∷ roomIn 8191 (Open 4087) 9 ∷ [] ≡ true ∷ false ∷ []
+rooms = refl
+
+-- the states after a clear, an update of two slots and one of a page; refused ones keep theirs
+pub states : clearWriter (slice 4096) (Open 5) ∷ updateWriter (slice 4096) (Open 5) (5 ∷ 0 ∷ []) 2 ∷ pageUpdateWriter (slice 4096) (Open 5) (1 ∷ 0 ∷ []) page
+    ∷ clearWriter (slice 4096) (Finished 4096) ∷ updateWriter (slice 4096) (Open 5) (5 ∷ 0 ∷ []) 1 ∷ pageUpdateWriter (slice 4096) Fresh (1 ∷ 0 ∷ []) page ∷ []
+    ≡ Open 14 ∷ Open 134 ∷ Open 102 ∷ Finished 4096 ∷ Open 5 ∷ Fresh ∷ []
+unfolding clearAnswer updateAnswer pageUpdateAnswer marked slotsBelow
+states = refl
+
+-- the log of 6s with these bytes at 5
+abbrev at5 : List ℕ → ℕ → List ℕ
+at5 bytes after = replicate 5 6 ++ (bytes ++ replicate after 6)
+
+-- the logs after them: of the table the count's nodes alone, of the page its marked node and the elided bytes at 4056
+pub logs : clearLog (slice 4096) (Open 5) 0x0201 ∷ updateLog (slice 4096) (Open 5) (replicate 32 1) (5 ∷ 0 ∷ []) table 2 (replicate 8 3) 0x0201
+    ∷ pageUpdateLog (slice 4096) (Open 5) (replicate 32 1) (1 ∷ 0 ∷ []) page 0x0201 ∷ updateLog (slice 4096) (Open 5) (replicate 32 1) (5 ∷ 0 ∷ []) table 1 (replicate 8 3) 0x0201 ∷ []
+    ≡ at5 (3 ∷ 1 ∷ 2 ∷ replicate 6 0) 4082
+    ∷ at5 (4 ∷ (replicate 32 1 ++ (5 ∷ (replicate 15 0 ++ (replicate 32 7 ++ (replicate 32 8 ++ (replicate 8 3 ++ (1 ∷ 2 ∷ replicate 6 0)))))))) 3962
+    ∷ at5 (4 ∷ (replicate 32 1 ++ (1 ∷ (replicate 15 0 ++ (replicate 32 2 ++ (replicate 8 4 ++ (1 ∷ 2 ∷ replicate 6 0))))))) 3994 ∷ slice 4096 ∷ []
+unfolding clearAnswer updateAnswer pageUpdateAnswer marked slotsBelow put recordOf flat block
+logs = refl
+
+-- packing into lent memory: "page length 2, 4", then 2 for that memory; the count, and the table node after node
+pub packs : packIntoAnswer (0 ∷ (2 ^ 62) ∷ []) [] (replicate 4032 6) ∷ packIntoAnswer (0 ∷ (2 ^ 62) ∷ []) page [] ∷ packIntoAnswer (1 ∷ 0 ∷ []) page [] ∷ packIntoAnswer (1 ∷ 0 ∷ []) page (replicate 4032 6) ∷ []
+    ≡ refused 2 ∷ refused 4 ∷ refused 2 ∷ given 1 ∷ []
+unfolding packIntoAnswer marked slotsBelow
+packs = refl
+
+pub packed-into : packedInto (1 ∷ 0 ∷ []) page (replicate 4032 6) ∷ packedInto (1 ∷ 0 ∷ []) page (6 ∷ []) ∷ [] ≡ (replicate 32 2 ++ replicate 4000 0) ∷ (6 ∷ []) ∷ []
+unfolding packIntoAnswer tableOf flat block marked slotsBelow
+packed-into = refl
