@@ -1,9 +1,16 @@
 // Runs of `list` on logs that are built here, each under a title: every refusal that a log can get, and the
-// edges of what is read. The file `stdout` is worked out from document 01 apart from this code.
+// edges of what is read. Then readers that are asked twice: past the end, past a refusal, and moving on. The
+// file `stdout` is worked out from document 01 apart from this code.
 ghost use mathlib.Core.Path.{_≡_};
 ghost use Prim.Native.Nat.{_≤_};
 ghost use lib.ListN.{length};
+ghost use Rattle.wal.specs.Log.{startSize};
+ghost use Rattle.wal.specs.Reader.{startOf};
+ghost use Rattle.wal_read.specs.Entry.{nextOf, Taken};
+ghost use Rattle.wal_read.specs.Set.{givesAt};
 use answers::Number;
+use wal_read::WalEntry;
+use wal_read::What;
 
 const ALL: u64 = 0xffff_ffff_ffff_ffff;
 
@@ -81,6 +88,61 @@ fn show(title: &[u8], log: &[u8], n: usize) {
             io::write_all(1, &lines[..len as usize]);
         }
     }
+}
+
+// What a reader set on a log gives when it is asked a second time.
+fn read_again(log: &[u8]) -> WalEntry
+    ensures { λ e. ⌜ Taken (givesAt (startOf (now (log .entry))) (now (log .entry)) (nextOf (givesAt (startOf (now (log .entry))) (now (log .entry)) startSize) startSize)) (nextOf (givesAt (startOf (now (log .entry))) (now (log .entry)) startSize) startSize) e ⌝ }
+{
+    let mut r = wal_read::new(log);
+    wal_read::read_entry(&mut r);
+    wal_read::read_entry(&mut r)
+}
+
+// A word and a number.
+fn word(w: &[u8], n: u64) {
+    io::write_all(1, w);
+    io::print_decimal(1, n);
+}
+
+// What an entry is, and the position after it.
+fn show_entry(e: WalEntry) {
+    let what = e.what;
+    match what {
+        What::Clear(bucket) => word(b"clear ", bucket),
+        What::Update(bucket) => word(b"update ", bucket),
+        What::End => {
+            io::write_all(1, b"end");
+        }
+        What::Refused(why) => word(b"refused ", answers::number_of(why) as u64),
+    }
+    word(b", next at ", e.next as u64);
+    io::write_all(1, b"\n");
+}
+
+// The title, and what a reader set on the first n bytes gives the second time.
+fn show_again(title: &[u8], log: &[u8], n: usize) {
+    io::write_all(1, title);
+    if n <= log.len() {
+        show_entry(read_again(&log[..n]));
+    }
+}
+
+// Readers that were refused, that stand at the end or at a bad record, and that move on.
+fn readers() {
+    let mut log = page();
+    show_again(b"-- reader: no byte\n", &log, 0);
+    show_again(b"-- reader: one byte\n", &log, 1);
+    show_again(b"-- reader: no start\n", &log, 4096);
+    start(&mut log, 7);
+    show_again(b"-- reader: a tag that is none\n", &log, 4096);
+    byte(&mut log, 5, 2);
+    show_again(b"-- reader: the end\n", &log, 4096);
+    clear(&mut log, 5, 3);
+    byte(&mut log, 14, 2);
+    show_again(b"-- reader: a clear, then the end\n", &log, 4096);
+    clear(&mut log, 14, 9);
+    show_again(b"-- reader: two clears\n", &log, 4096);
 }
 
 // Logs with a start, and with what may stand in its place.
@@ -199,4 +261,5 @@ fn main() {
     last_byte();
     no_end();
     longest();
+    readers();
 }

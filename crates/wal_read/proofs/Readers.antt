@@ -88,3 +88,11 @@ pub set-refuses : (log : RefT (List ℕ)) (r : WalBlobReader) → SetOn log r �
 set-refuses log r set n h e after read =
     let here : Taken (stopped n) (r .at) e = subst (λ (a : Answer ℕ). Taken (givesAt a (now (r .log)) (r .at)) (r .at) e) (set .start-is ∙ h) (read .entry-is) in
     (here .what-is, fields-one after r (read .log-stays) (read .at-moves ∙ here .next-is) (read .start-stays))
+
+-- two calls one after the other on a reader set on a log: what the second gives
+pub second-gives : (log : RefT (List ℕ)) (r after last : WalBlobReader) (d e : WalEntry) → SetOn log r → Reads r d after → Reads after e last
+    → let n : Next = givesAt (startOf (now log)) (now log) startSize in Taken (givesAt (startOf (now log)) (now log) (nextOf n startSize)) (nextOf n startSize) e
+second-gives log r after last d e set first second =
+    subst (λ (p : ℕ). Taken (givesAt (startOf (now log)) (now log) p) p e) (first .at-moves ∙ set-gives log r set d (first .entry-is) .next-is)
+    (subst (λ (a : Answer ℕ). Taken (givesAt a (now log) (after .at)) (after .at) e) (ap numberSaid (first .start-stays) ∙ set .start-is)
+    (subst (λ (l : RefT (List ℕ)). Taken (givesAt (numberSaid (after .start)) (now l) (after .at)) (after .at) e) (first .log-stays ∙ set .log-is) (second .entry-is)))
