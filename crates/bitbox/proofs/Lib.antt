@@ -1,2 +1,4 @@
+pub mod Examples
 pub mod Exported
+pub mod OneAnswer
 mod WordLaws
