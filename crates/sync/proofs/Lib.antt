@@ -1,7 +1,6 @@
 pub mod Accepted
 pub mod Again
 pub mod Examples
-pub mod Front
 pub mod Labels
 pub mod LiveTags
 pub mod Logged

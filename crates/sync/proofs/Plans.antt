@@ -16,7 +16,8 @@ use Rattle.answers.specs.declared.Truth.the-variants as truth
 use Rattle.answers.proofs.Laws.{given-one, given-refused}
 use Rattle.answers.proofs.Truth as TruthT
 use Rattle.page_diff.specs.Diff.{marked, reserved, askAnswer}
-use Rattle.sync.specs.Change.{whereOf, placeOf, Named, bucket, none, namedBy, nameSaid, tagFits, Does, clears, updates, allocates, doesWith, byNamed, doesOf, cellsAt}
+use Rattle.sync.specs.Change.{whereOf, placeOf, Named, bucket, none, namedBy, tagFits, Does, clears, updates, allocates, doesWith, byNamed, doesOf, cellsAt}
+use Rattle.sync.specs.InnerChange.{nameSaid}
 use Rattle.sync.specs.declared.Change.{Change}
 use Rattle.sync.specs.declared.Where.{Where}
 use Rattle.sync.specs.declared.Where.the-variants as place

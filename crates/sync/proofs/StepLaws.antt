@@ -21,7 +21,8 @@ use Rattle.wal.specs.declared.Writer.the-variants.{Fresh, Open, Finished}
 use Rattle.wal.proofs.Writer as WriterT
 use Rattle.wal_write.specs.Calls.{roomIn, clearWriter, clearLog, pageUpdate, pageUpdateAnswer, pageUpdateWriter, pageUpdateLog}
 use Rattle.wal_write.proofs.CallLaws.{NotOpen, tested, taken, clear-tests, page-tests}
-use Rattle.sync.specs.Change.{whereOf, Wide, Mem, memOf, Does, clears, updates, allocates, doesOf, Effect, cleared, updated, allocated, bucketOf, afterDoes, effectOf, entryBy, sizeBy, tagsBy, marksBy, cellsBy, occupiedBy, memBy, stateOf, stateBy, pageNumber, takenSaid, outlookSaid, StepPromise}
+use Rattle.sync.specs.Change.{whereOf, Wide, Mem, memOf, Does, clears, updates, allocates, doesOf, Effect, cleared, updated, allocated, bucketOf, afterDoes, effectOf, entryBy, sizeBy, tagsBy, marksBy, cellsBy, occupiedBy, memBy, stateOf, stateBy, pageNumber, takenSaid, StepPromise}
+use Rattle.sync.specs.InnerChange.{outlookSaid}
 use Rattle.sync.specs.declared.Change.{Change}
 use Rattle.sync.specs.declared.SyncState.{SyncState}
 use Rattle.sync.specs.declared.Outlook.{Outlook}

@@ -13,7 +13,8 @@ use borrow.Author.Needs.{needs}
 use Rattle.answers.specs.Answers.{Answer, given, refused}
 use Rattle.wal.specs.Writer.{finishAnswer}
 use Rattle.sync.specs.Change.{Mem, Wide, AllWide, none-wide, more-wide}
-use Rattle.sync.specs.Sync.{Came, through, refusedAt, wideIf, SyncSaid, saidDone, saidRefused, saidRefusedAt, saidFinish, saidBy, widthsBy}
+use Rattle.sync.specs.Sync.{Came, through, refusedAt, SyncSaid, saidDone, saidRefused, saidRefusedAt, saidFinish, saidBy, widthsBy}
+use Rattle.sync.specs.InnerSync.{wideIf}
 use Rattle.sync.specs.declared.Change.{Change}
 use Rattle.sync.specs.declared.SyncState.{SyncState}
 use Rattle.sync.proofs.Change as T

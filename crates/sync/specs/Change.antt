@@ -10,7 +10,7 @@ use Rattle.answers.specs.Refusals.{numberOf}
 use Rattle.blocks.specs.Blocks.{put}
 use Rattle.ht_file.specs.Places.{tagPages, tagsFit}
 use Rattle.meta_map.specs.Tags.{full, kindOf, isKind, fullTag}
-use Rattle.page_diff.specs.Diff.{marked, countOf, reserved}
+use Rattle.page_diff.specs.Diff.{marked, countOf}
 use Rattle.probe.specs.Path.{allocating, hitLimit}
 use Rattle.wal.specs.Log.{Entry, clear, recordOf, clearSize, updateSize}
 use Rattle.wal.specs.Writer.{position, ifOpen, ifRoom}
@@ -21,13 +21,7 @@ use Rattle.sync.specs.declared.Where.{Where}
 use Rattle.sync.specs.declared.Place.{Place}
 use Rattle.sync.specs.declared.Where.the-variants.{Known, Fresh as FreshPage, Cell}
 use Rattle.sync.specs.declared.SyncState.{SyncState}
-use Rattle.sync.specs.declared.Name.{Name}
-use Rattle.sync.specs.declared.Name.the-variants as N
-use Rattle.sync.specs.declared.Planned.{Planned}
-use Rattle.sync.specs.declared.Planned.the-variants as P
-use Rattle.sync.specs.declared.Outlook.{Outlook}
-use Rattle.sync.specs.declared.Outlook.the-variants as O
-use Rattle.wal_write.specs.Calls.{roomIn, pageUpdate}
+use Rattle.wal_write.specs.Calls.{pageUpdate}
 use Rattle.sync.specs.declared.StepAnswer.{StepAnswer}
 use Rattle.sync.specs.declared.Taken.{Taken}
 use Rattle.sync.specs.declared.Taken.the-variants as taken
@@ -214,33 +208,6 @@ pageNumber st (given e) = given (bucketOf e, tagPages (st .n) + bucketOf e)
 abbrev pub takenSaid : Taken → Answer (ℕ × ℕ)
 takenSaid (taken.At b p) = given (b, p)
 takenSaid (taken.Refused r) = refused (numberOf r)
-
--- what the code's inner answers say
-abbrev pub nameSaid : Name → Answer Named
-nameSaid (N.Bucket b) = given (bucket b)
-nameSaid N.None = given none
-nameSaid (N.Refused r) = refused (numberOf r)
-
-abbrev pub plannedSaid : Planned → Answer Does
-plannedSaid (P.Clears b) = given (clears b)
-plannedSaid (P.Updates b) = given (updates b)
-plannedSaid P.Allocates = given allocates
-plannedSaid (P.Refused r) = refused (numberOf r)
-
-abbrev pub outlookSaid : Outlook → Answer Effect
-outlookSaid (O.Clears b) = given (cleared b)
-outlookSaid (O.Updates b) = given (updated b)
-outlookSaid (O.Takes b) = given (allocated b)
-outlookSaid (O.Refused r) = refused (numberOf r)
-
--- what an outlook that is no refusal rests on: the bucket is inside the table, its record has room, and an update's diff marks nodes alone
-abbrev pub outlookFits : Outlook → SyncState → List ℕ → Change → Type 0
-outlookFits (O.Clears b) st log c = (b < st .n) × (roomIn (length log) (st .writer) clearSize ≡ true)
-outlookFits (O.Updates b) st log c =
-    (b < st .n) × (roomIn (length log) (st .writer) (updateSize (countOf (c .diff .words))) ≡ true) × (reserved (c .diff .words) ≡ false)
-outlookFits (O.Takes b) st log c =
-    (b < st .n) × (roomIn (length log) (st .writer) (updateSize (countOf (c .diff .words))) ≡ true) × (reserved (c .diff .words) ≡ false)
-outlookFits (O.Refused r) st log c = Unit {0}
 
 -- what a step promises: its answer, the state and the memory after it; and the widths of the change it was given
 pub record StepPromise (st : SyncState) (m : Mem) (page : List ℕ) (c : Change) (r : StepAnswer) (after : Mem) : Type 0 where

@@ -1,2 +1,4 @@
 pub mod Change
+pub mod InnerChange
+pub mod InnerSync
 pub mod Sync

@@ -169,11 +169,32 @@ syncWriter n m pages cs sync w =
     keptIf (beforeChanges n m pages (length cs)) w
     (writerAfter (came n m pages cs sync .came) (came n m pages cs sync .state) (left n m pages cs sync))
 
--- the widths that the types of what is lent give, where a sync came through: of every change, and of the sync number
-abbrev pub wideIf : Came → List Change → Type 0
-wideIf (through j) cs = AllWide cs
-wideIf (refusedAt j k) cs = Unit {0}
+-- what change j promises: where it came to, and what it left
+abbrev pub ChangePromise : Mem → List ℕ → Change → ℕ → SyncState → Walked → Mem → Type 0
+ChangePromise m pages c j st r after = (walkedSaid r ≡ changeAt m pages c j st) × (after ≡ changeMem m pages c j st)
 
+-- the state that a sync begins with, or a refusal
+abbrev pub startIf : Answer (Unit {0}) → SyncState → Answer SyncState
+startIf (given u) st = given st
+startIf (refused k) st = refused k
+
+abbrev pub begunSaid : Begun → Answer SyncState
+begunSaid (begun.Ready st) = given st
+begunSaid (begun.Refused r) = refused (numberOf r)
+
+-- what the start of a sync of so many changes promises: the state for its first change, and the marks and the log after it
+abbrev pub BeginPromise : ℕ → Mem → List ℕ → ℕ → ℕ → Begun → Mem → Type 0
+BeginPromise n m pages count sync r after =
+    (begunSaid r ≡ startIf (beforeChanges n m pages count) (startState n m)) × (after ≡ keptIf (beforeChanges n m pages count) m (startMem m sync))
+
+-- what the end promises, from where the changes came to: the answer, the writer and the log after it
+abbrev pub EndPromise : Walked → List ℕ → SyncAnswer → List ℕ → Type 0
+EndPromise w log r after =
+    (syncedSaid (r .synced) ≡ saidBy (walkSaid (w .walk)) (w .state) (memOf [] [] [] log)) ×
+    ((r .writer ≡ writerAfter (walkSaid (w .walk)) (w .state) (memOf [] [] [] log)) ×
+    (after ≡ logAfter (walkSaid (w .walk)) (w .state) (memOf [] [] [] log)))
+
+-- the widths that the types of what is lent give, where a sync came through: of every change, and of the sync number
 abbrev pub widthsBy : SyncSaid → List Change → ℕ → Type 0
 widthsBy (saidDone o len) cs sync = AllWide cs × (sync < 2 ^ 32)
 widthsBy (saidRefused k) cs sync = Unit {0}
@@ -185,12 +206,3 @@ pub record SyncPromise (n : ℕ) (m : Mem) (pages : List ℕ) (cs : List Change)
   pub writer : r .writer ≡ syncWriter n m pages cs sync w
   pub memory : after ≡ syncMem n m pages cs sync
   pub widths : widthsBy (syncedSaid (r .synced)) cs sync
-
--- the state that a sync begins with, or a refusal
-abbrev pub startIf : Answer (Unit {0}) → SyncState → Answer SyncState
-startIf (given u) st = given st
-startIf (refused k) st = refused k
-
-abbrev pub begunSaid : Begun → Answer SyncState
-begunSaid (begun.Ready st) = given st
-begunSaid (begun.Refused r) = refused (numberOf r)

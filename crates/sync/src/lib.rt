@@ -5,14 +5,16 @@ ghost use mathlib.Core.Path.{_≡_};
 ghost use mathlib.Core.Bool.{true};
 ghost use mathlib.Core.List.{[]};
 ghost use Prim.Native.Nat.{_+_, _-_, _/_, _^_, _≤_, _<_, min};
-ghost use lib.ListN.{length, set, take, replicate};
+ghost use lib.ListN.{length, set, replicate};
 ghost use Rattle.answers.specs.Answers.{given, refused};
 ghost use Rattle.answers.specs.Refusals.{numberOf};
 ghost use Rattle.ht_file.specs.Places.{tagsFit, tagPages};
 ghost use Rattle.meta_map.specs.Tags.{full, countOf};
-ghost use Rattle.sync.specs.Change.{memOf, bucket, whereOf, placeOf, namedBy, nameSaid, tagFits, byNamed, doesOf, plannedSaid, afterDoes, outlookSaid, outlookFits, cellsAt, takenSaid, StepPromise, stateOf};
+ghost use Rattle.sync.specs.Change.{memOf, bucket, whereOf, placeOf, namedBy, tagFits, byNamed, doesOf, cellsAt, takenSaid, StepPromise, stateOf};
 ghost use Rattle.sync.specs.declared.Where.the-variants.{Known, Fresh as FreshPage, Cell};
-ghost use Rattle.sync.specs.Sync.{changeAt, changeMem, allOf, memAll, walkSaid, walkedSaid, wideIf, SyncPromise, beforeChanges, startIf, startState, startMem, keptIf, begunSaid, syncedSaid, saidBy, writerAfter, logAfter};
+ghost use Rattle.sync.specs.InnerChange.{nameSaid, plannedSaid, LookPromise};
+ghost use Rattle.sync.specs.InnerSync.{WalkPromise};
+ghost use Rattle.sync.specs.Sync.{ChangePromise, BeginPromise, EndPromise, SyncPromise};
 use answers::Number;
 use answers::Outcome;
 use answers::Refusal;
@@ -235,7 +237,7 @@ enum Outlook {
 // The plan, with the room for its record, and a bucket where one is to be allocated: 13, then 10 or 11.
 fn look_ahead(tags: &[u8], cells: &[u64], log: &[u8], c: Change, st: SyncState) -> Outlook
     requires { ⌜ tagsFit (st .n) (length (now tags)) ≡ true ⌝ }
-    ensures { λ r. ⌜ (outlookSaid r ≡ afterDoes st (memOf (now (tags .entry)) [] (now (cells .entry)) (now (log .entry))) c (doesOf (st .n) (now (tags .entry)) (now (cells .entry)) c)) × outlookFits r st (now (log .entry)) c ⌝ }
+    ensures { λ r. ⌜ LookPromise st (memOf (now (tags .entry)) [] (now (cells .entry)) (now (log .entry))) c r ⌝ }
 {
     let n = st.n;
     let w = st.writer;
@@ -394,7 +396,7 @@ pub fn step(
 }
 
 // Change j of a sync, whose page is the j-th of the lent pages.
-pub(crate) fn change_at(
+pub fn change_at(
     tags: &mut [u8],
     marks: &mut [u8],
     cells: &mut [u64],
@@ -404,7 +406,7 @@ pub(crate) fn change_at(
     j: usize,
     st: SyncState,
 ) -> Walked
-    ensures { λ r. ⌜ (walkedSaid r ≡ changeAt (memOf (now (tags .entry)) (now (marks .entry)) (now (cells .entry)) (now (log .entry))) (now (pages .entry)) c j st) × (memOf (now (tags .exit)) (now (marks .exit)) (now (cells .exit)) (now (log .exit)) ≡ changeMem (memOf (now (tags .entry)) (now (marks .entry)) (now (cells .entry)) (now (log .entry))) (now (pages .entry)) c j st) ⌝ }
+    ensures { λ r. ⌜ ChangePromise (memOf (now (tags .entry)) (now (marks .entry)) (now (cells .entry)) (now (log .entry))) (now (pages .entry)) c j st r (memOf (now (tags .exit)) (now (marks .exit)) (now (cells .exit)) (now (log .exit))) ⌝ }
 {
     let mut a = 0;
     let mut e = 0;
@@ -437,7 +439,7 @@ fn walk_changes(
     changes: &[Change],
     start: SyncState,
 ) -> Walked
-    ensures { λ r. ⌜ (walkedSaid r ≡ allOf (memOf (now (tags .entry)) (now (marks .entry)) (now (cells .entry)) (now (log .entry))) (now (pages .entry)) (now (changes .entry)) 0 start) × ((memOf (now (tags .exit)) (now (marks .exit)) (now (cells .exit)) (now (log .exit)) ≡ memAll (memOf (now (tags .entry)) (now (marks .entry)) (now (cells .entry)) (now (log .entry))) (now (pages .entry)) (now (changes .entry)) 0 start) × wideIf (walkSaid (r .walk)) (now (changes .entry))) ⌝ }
+    ensures { λ r. ⌜ WalkPromise (memOf (now (tags .entry)) (now (marks .entry)) (now (cells .entry)) (now (log .entry))) (now (pages .entry)) (now (changes .entry)) start r (memOf (now (tags .exit)) (now (marks .exit)) (now (cells .exit)) (now (log .exit))) ⌝ }
 {
     let mut st = start;
     let mut i = 0;
@@ -477,14 +479,14 @@ fn zero(marks: &mut [u8])
 }
 
 // What the start of a sync has come to: the state for its first change.
-enum Begun {
+pub enum Begun {
     Ready(SyncState),
     Refused(Refusal),
 }
 
 // The start of a sync of so many changes: the lengths are tested, the log is begun, the marks are zeroed and
 // the full tags counted. A refusal leaves all.
-fn begin_sync(
+pub fn begin_sync(
     tags: &[u8],
     marks: &mut [u8],
     log: &mut [u8],
@@ -493,7 +495,7 @@ fn begin_sync(
     n: usize,
     sync_seqn: u32,
 ) -> Begun
-    ensures { λ r. ⌜ (begunSaid r ≡ startIf (beforeChanges n (memOf (now (tags .entry)) (now (marks .entry)) [] (now (log .entry))) (now (pages .entry)) count) (startState n (memOf (now (tags .entry)) (now (marks .entry)) [] (now (log .entry))))) × (memOf (now (tags .entry)) (now (marks .exit)) [] (now (log .exit)) ≡ keptIf (beforeChanges n (memOf (now (tags .entry)) (now (marks .entry)) [] (now (log .entry))) (now (pages .entry)) count) (memOf (now (tags .entry)) (now (marks .entry)) [] (now (log .entry))) (startMem (memOf (now (tags .entry)) (now (marks .entry)) [] (now (log .entry))) «sync_seqn»)) ⌝ }
+    ensures { λ r. ⌜ BeginPromise n (memOf (now (tags .entry)) (now (marks .entry)) [] (now (log .entry))) (now (pages .entry)) count «sync_seqn» r (memOf (now (tags .entry)) (now (marks .exit)) [] (now (log .exit))) ⌝ }
 {
     if ht_file::tags_fit(n, tags.len()) {
         if pages.len() / 4096 != count {
@@ -523,8 +525,8 @@ fn begin_sync(
 }
 
 // What comes after the last change: the log is finished, or given up where a change was refused.
-fn end_sync(log: &mut [u8], walked: Walked) -> SyncAnswer
-    ensures { λ r. ⌜ (syncedSaid (r .synced) ≡ saidBy (walkSaid (walked .walk)) (walked .state) (memOf [] [] [] (now (log .entry)))) × ((r .writer ≡ writerAfter (walkSaid (walked .walk)) (walked .state) (memOf [] [] [] (now (log .entry)))) × (now (log .exit) ≡ logAfter (walkSaid (walked .walk)) (walked .state) (memOf [] [] [] (now (log .entry))))) ⌝ }
+pub fn end_sync(log: &mut [u8], walked: Walked) -> SyncAnswer
+    ensures { λ r. ⌜ EndPromise walked (now (log .entry)) r (now (log .exit)) ⌝ }
 {
     let walk = walked.walk;
     let state = walked.state;
@@ -579,44 +581,4 @@ pub fn sync(
             end_sync(log, walked)
         }
     }
-}
-
-// A sync of the first k of four changes, which a program can hold in an array.
-fn sync_front(
-    tags: &mut [u8],
-    marks: &mut [u8],
-    cells: &mut [u64],
-    log: &mut [u8],
-    pages: &[u8],
-    cs: [Change; 4],
-    k: usize,
-    n: usize,
-    w: Writer,
-    sync_seqn: u32,
-) -> SyncAnswer
-    requires { ⌜ k ≤ 4 ⌝ }
-    ensures { λ r. ⌜ SyncPromise n (memOf (now (tags .entry)) (now (marks .entry)) (now (cells .entry)) (now (log .entry))) (now (pages .entry)) (take k cs) «sync_seqn» w r (memOf (now (tags .exit)) (now (marks .exit)) (now (cells .exit)) (now (log .exit))) ⌝ }
-{
-    sync(tags, marks, cells, log, pages, &cs[..k], n, w, sync_seqn)
-}
-
-// A sync of the first `count` of four changes; above four, of all four.
-pub fn sync_four(
-    tags: &mut [u8],
-    marks: &mut [u8],
-    cells: &mut [u64],
-    log: &mut [u8],
-    pages: &[u8],
-    cs: [Change; 4],
-    count: usize,
-    n: usize,
-    w: Writer,
-    sync_seqn: u32,
-) -> SyncAnswer
-    ensures { λ r. ⌜ SyncPromise n (memOf (now (tags .entry)) (now (marks .entry)) (now (cells .entry)) (now (log .entry))) (now (pages .entry)) (take (min count 4) cs) «sync_seqn» w r (memOf (now (tags .exit)) (now (marks .exit)) (now (cells .exit)) (now (log .exit))) ⌝ }
-{
-    if 4 < count {
-        return sync_front(tags, marks, cells, log, pages, cs, 4, n, w, sync_seqn);
-    }
-    sync_front(tags, marks, cells, log, pages, cs, count, n, w, sync_seqn)
 }

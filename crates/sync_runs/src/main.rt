@@ -4,11 +4,15 @@
 // `stdout` is worked out from document 01 apart from this code.
 use answers::Refusal;
 use page_diff::Diff;
+use sync::Begun;
 use sync::Change;
 use sync::Place;
+use sync::SyncAnswer;
 use sync::SyncState;
 use sync::Synced;
 use sync::Taken;
+use sync::Walk;
+use sync::Walked;
 use wal::Writer;
 
 const N: usize = 4;
@@ -175,7 +179,62 @@ fn fresh() -> Change {
     change(0, PLAIN, sync::fresh())
 }
 
-// A sync of the first `count` of two changes, and what it left.
+// The first `count` of two changes, one after the other, up to one that is refused.
+fn walked(
+    tags: &mut [u8],
+    marks: &mut [u8],
+    cells: &mut [u64],
+    log: &mut [u8],
+    pages: &[u8],
+    first: Change,
+    second: Change,
+    count: usize,
+    start: SyncState,
+) -> Walked {
+    if count == 0 {
+        return Walked {
+            walk: Walk::Through(0),
+            state: start,
+        };
+    }
+    let one = sync::change_at(tags, marks, cells, log, pages, first, 0, start);
+    if count == 1 {
+        return one;
+    }
+    let came = one.walk;
+    if let Walk::RefusedAt(_, _) = came {
+        return one;
+    }
+    sync::change_at(tags, marks, cells, log, pages, second, 1, one.state)
+}
+
+// A sync of them: its start, the changes, its end. A refused start hands the writer back.
+fn run(
+    tags: &mut [u8],
+    marks: &mut [u8],
+    cells: &mut [u64],
+    log: &mut [u8],
+    pages: &[u8],
+    first: Change,
+    second: Change,
+    count: usize,
+    n: usize,
+    w: Writer,
+) -> SyncAnswer {
+    let begun = sync::begin_sync(&tags[..], marks, log, pages, count, n, SEQN);
+    match begun {
+        Begun::Refused(why) => SyncAnswer {
+            synced: Synced::Refused(why),
+            writer: w,
+        },
+        Begun::Ready(start) => {
+            let came = walked(tags, marks, cells, log, pages, first, second, count, start);
+            sync::end_sync(log, came)
+        }
+    }
+}
+
+// Such a sync, and what it left.
 fn synced(
     title: &[u8],
     tags: &mut [u8],
@@ -189,19 +248,18 @@ fn synced(
     n: usize,
 ) {
     let mut cells = [cell, 7];
-    let cs = [first, second, second, second];
     let open = Writer::Open(77);
-    let r = sync::sync_four(
+    let r = run(
         tags,
         marks,
         &mut cells,
         log,
         pages,
-        cs,
+        first,
+        second,
         count,
         n,
         open,
-        SEQN,
     );
     let answer = r.synced;
     let writer = r.writer;

@@ -1,6 +1,7 @@
 -- The plan, then the test of room, then the search for a bucket: each as the definition has it. Assumes nothing.
 use Rattle.sync.proofs.Plans.{does-clears, does-updates, does-allocates}
-use Rattle.sync.specs.Change.{memOf, clears, updates, allocates, cleared, updated, allocated, byBucket, doesOf, plannedSaid, afterDoes}
+use Rattle.sync.specs.Change.{memOf, clears, updates, allocates, cleared, updated, allocated, byBucket, doesOf, afterDoes}
+use Rattle.sync.specs.InnerChange.{plannedSaid}
 use Rattle.wal_write.specs.Calls.{roomIn}
 use Rattle.wal.specs.Writer.{ifRoom}
 use Rattle.wal.specs.Log.{clearSize, updateSize}

@@ -1,6 +1,7 @@
 -- Bit 126, then what the place names, then the tag rule: each as the definition has it. Assumes nothing.
 use Rattle.sync.proofs.Plans.{spare-holds, spare-fails, plan-spare, plan-by, no-name}
-use Rattle.sync.specs.Change.{Named, bucket, none, nameSaid, byNamed, doesOf, allocates}
+use Rattle.sync.specs.Change.{Named, bucket, none, byNamed, doesOf, allocates}
+use Rattle.sync.specs.InnerChange.{nameSaid}
 use Rattle.answers.specs.Refusals.{numberOf}
 use Rattle.answers.specs.Answers.{Answer, given, refused}
 use mathlib.Core.Bool.{Bool, cond}

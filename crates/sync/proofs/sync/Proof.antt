@@ -47,7 +47,8 @@ use Rattle.answers.specs.Refusals.{numberOf}
 use Rattle.answers.specs.declared.Refusal.{Refusal}
 use Rattle.wal.specs.declared.Writer.{Writer}
 use Rattle.sync.specs.Change.{Mem, memOf}
-use Rattle.sync.specs.Sync.{allOf, memAll, walkSaid, walkedSaid, beforeChanges, startIf, startState, startMem, keptIf, begunSaid, saidBy, writerAfter, logAfter, syncedSaid, syncSays, syncWriter, syncMem, wideIf, SyncPromise}
+use Rattle.sync.specs.Sync.{allOf, memAll, walkSaid, walkedSaid, beforeChanges, startIf, startState, startMem, keptIf, begunSaid, saidBy, writerAfter, logAfter, syncedSaid, syncSays, syncWriter, syncMem, SyncPromise}
+use Rattle.sync.specs.InnerSync.{wideIf}
 use Rattle.sync.specs.declared.Change.{Change}
 use Rattle.sync.specs.declared.SyncState.{SyncState}
 use Rattle.sync.specs.declared.Walked.{Walked}

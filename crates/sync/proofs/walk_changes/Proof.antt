@@ -57,7 +57,8 @@ use borrow.Author.Count.{below-more}
 use borrow.Author.Needs.{scaled-fits}
 use borrow.Author.Tests.{lt-ltb, le-ltb}
 use Rattle.sync.specs.Change.{Wide, Mem, memOf}
-use Rattle.sync.specs.Sync.{changeAt, changeMem, allOf, memAll, walkSaid, walkedSaid, wideIf}
+use Rattle.sync.specs.Sync.{changeAt, changeMem, allOf, memAll, walkSaid, walkedSaid}
+use Rattle.sync.specs.InnerSync.{wideIf}
 use Rattle.sync.specs.declared.Change.{Change}
 use Rattle.sync.specs.declared.SyncState.{SyncState}
 use Rattle.sync.specs.declared.Walked.{Walked}
