@@ -11,13 +11,13 @@ ghost use Rattle.answers.specs.Answers.{given, outcomeSaid, numberSaid, truthSa
 ghost use Rattle.ht_file.specs.Places.{tagPages, imageLength, ifCount, pageOf};
 ghost use Rattle.meta_map.specs.Tags.{empty, tombstone, full, kindOf, isKind, fullTag, countOf as fullCount, paddingEmpty, ifTags, writeAnswer, tagWritten};
 ghost use Rattle.page_diff.specs.Diff.{marked, countOf, setAnswer, setWords, askAnswer, clearedWords, joined, bytesOfWords, readAnswer, readWords};
-ghost use Rattle.page_diff.specs.Pack.{packAnswer, packedOf, unpackAnswer, unpackedPage};
+ghost use Rattle.page_diff.specs.Pack.{packAnswer, packedOf, unpackAnswer, unpackedPage, packIntoAnswer, packedInto};
 ghost use Rattle.probe.specs.Path.{probeAnswer, lookupAnswer, hitLimit, allocateAnswer, allocatedTags, probedSaid, foundSaid, allocatedSaid};
 ghost use Rattle.wal.specs.Reader.{startOf, nextAt};
 ghost use Rattle.wal.specs.Writer.{beginAnswer, beginWriter, beginLog, clearAnswer, updateAnswer, finishAnswer, finishWriter, finishLog};
 ghost use Rattle.wal_read.specs.Head.{headOf, headSaid};
 ghost use Rattle.wal_read.specs.Entry.{whatSaid};
-ghost use Rattle.wal_write.specs.Calls.{clearWriter, clearLog, updateWriter, updateLog, packIntoAnswer, packedInto};
+ghost use Rattle.wal_write.specs.Calls.{clearWriter, clearLog, updateWriter, updateLog};
 ghost use Rattle.sync.specs.Change.{memOf, takenSaid};
 ghost use Rattle.sync.specs.Sync.{syncedSaid};
 ghost use Rattle.recover.specs.Replay.{replayAnswer, replayImage, stepAnswer, stepImage, recoveredSaid, steppedSaid};
@@ -629,7 +629,7 @@ pub extern "C" fn bitbox_pack(lo: u64, hi: u64, page: &[u8]) -> PackAnswer
 pub extern "C" fn bitbox_pack_into(lo: u64, hi: u64, page: &[u8], nodes: &mut [u8]) -> Answer
     ensures { λ r. ⌜ (r ≡ numberWords (packIntoAnswer (pair lo hi) (now (page .entry)) (now (nodes .entry)))) × (now (nodes .exit) ≡ packedInto (pair lo hi) (now (page .entry)) (now (nodes .entry))) ⌝ }
 {
-    of_number(wal_write::pack_into(nodes, diff(lo, hi), page))
+    of_number(page_diff::pack_into(nodes, diff(lo, hi), page))
 }
 
 // Puts packed nodes back at the marked slots of a page: 2, 4, 2.

@@ -1,11 +1,11 @@
 -- The loops that read a block into an array and put an array into a slice, over the width k: what holds after i turns. Assumes nothing.
-use mathlib.Core.Path.{_≡_, refl, sym, ap, _∙_}
+use mathlib.Core.Path.{_≡_, refl, sym, ap, _∙_, subst}
 use mathlib.Core.List.{List, [], _++_, append-nil}
 use Prim.Native.Nat.{ℕ, _+_, _-_, _≤_, _<_}
 use native.Mathlib.Nat.{zero-add}
 use native.Mathlib.Numerals.{add-one}
 use native.Mathlib.Omega.{arith}
-use lib.ListN.{length, getD, set, take, drop, replicate, length-set, length-drop, length-replicate, drop-of-length-le}
+use lib.ListN.{length, getD, set, take, drop, replicate, length-set, length-drop, length-replicate, getD-replicate, drop-of-length-le}
 use lib.Seq.{paste, paste-zero, paste-suc, getD-drop}
 use Rattle.blocks.specs.Blocks.{block, put}
 use Rattle.blocks.proofs.Laws.{block-at, put-paste}
@@ -57,3 +57,9 @@ pub put-end : (s : List ℕ) (at : ℕ) (b t : List ℕ) (i : ℕ) → Put s at 
 put-end s at b t i inv l h =
     let all : i ≡ length b = omega arith in
     inv .2 ∙ ap (paste s at b) all ∙ sym (put-paste s at b h)
+
+-- zeros, one after the other
+pub zeros-turn : (s : List ℕ) (at n : ℕ) (t : List ℕ) (i : ℕ) → Put s at (replicate n 0) t i → i < n → at + n ≤ length s → Put s at (replicate n 0) (set t (at + i) 0) (i + 1)
+zeros-turn s at n t i inv l h =
+    let long : length (replicate {A = ℕ} n 0) ≡ n = length-replicate n 0 in
+    subst (λ (x : ℕ). Put s at (replicate n 0) (set t (at + i) x) (i + 1)) (getD-replicate n i 0 0 l) (put-turn s at (replicate n 0) t i inv (omega arith) (omega arith))

@@ -1,3 +1,4 @@
 pub mod Copy
 pub mod Laws
 pub mod Examples
+pub mod Parts

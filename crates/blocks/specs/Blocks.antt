@@ -27,3 +27,8 @@ put s at bs = cond (leb (at + length bs) (length s)) (take at s ++ bs ++ drop (a
 unfoldable pub tabulate : (ℕ → ℕ) → ℕ → List ℕ
 tabulate f zero = []
 tabulate f (suc n) = tabulate f n ++ (f n ∷ [])
+
+-- lists one after the other
+unfoldable pub flat : List (List ℕ) → List ℕ
+flat [] = []
+flat (n ∷ ns) = n ++ flat ns

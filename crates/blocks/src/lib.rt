@@ -2,7 +2,7 @@
 // `read_buf`, `to_le_bytes` and `copy_from_slice`. Every call is total: past the slice's end zeros are
 // read and nothing is written. A block goes through an array by value, which compiles to wide moves.
 ghost use mathlib.Core.Path.{_≡_};
-ghost use lib.ListN.{length};
+ghost use lib.ListN.{length, replicate};
 ghost use Rattle.blocks.specs.Blocks.{le, bytesOf, block, put};
 
 // The number that four bytes are.
@@ -239,4 +239,29 @@ pub fn write_u64(s: &mut [u8], at: usize, x: u64)
     ensures { λ _. ⌜ now (s .exit) ≡ put (now (s .entry)) at (bytesOf 8 x) ⌝ }
 {
     put_8(s, at, u64_bytes(x));
+}
+
+// Puts `n` zeros into s from `at` on; every other byte stays.
+pub fn put_zeros(s: &mut [u8], at: usize, n: usize)
+    ensures { λ _. ⌜ now (s .exit) ≡ put (now (s .entry)) at (replicate n 0) ⌝ }
+{
+    if s.len() < n {
+        return;
+    }
+    if s.len() - n < at {
+        return;
+    }
+    let mut i = 0;
+    while i < n {
+        s[at + i] = 0;
+        i += 1;
+    }
+}
+
+// Every byte of s becomes zero.
+pub fn zero_all(s: &mut [u8])
+    ensures { λ _. ⌜ now (s .exit) ≡ replicate (length (now (s .entry))) 0 ⌝ }
+{
+    let n = s.len();
+    put_zeros(s, 0, n);
 }

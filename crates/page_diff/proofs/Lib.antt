@@ -8,3 +8,5 @@ pub mod PackLaws
 pub mod Examples
 pub mod PastCount
 pub mod OneAnswer
+pub mod Nodes
+pub mod PackInto

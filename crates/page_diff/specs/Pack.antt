@@ -7,7 +7,7 @@ use lib.Dec.{eqb}
 use lib.ListN.{length, getD, take, drop, replicate}
 use Rattle.answers.specs.Answers.{Answer, given, refused, accepted, outcomeSaid}
 use Rattle.answers.specs.declared.Outcome.{Outcome}
-use Rattle.blocks.specs.Blocks.{block, tabulate}
+use Rattle.blocks.specs.Blocks.{block, put, flat, tabulate}
 use Rattle.page_diff.specs.Diff.{marked, slotsBelow, slots, countOf, reserved}
 use Rattle.page_diff.specs.declared.Packed.{Packed}
 
@@ -30,6 +30,20 @@ packAnswer ws page = cond (eqb (length page) 4096) (cond (reserved ws) (refused 
 abbrev pub packedOf : List ℕ → List ℕ → Packed
 packedOf ws page =
     cond (accepted (packAnswer ws page)) (packedBy (tableOf page (slots ws)) (countOf ws)) (packedBy (tableOf page []) 0)
+
+-- the nodes of a page's marked slots put into s, one after the other; a diff with bit 126 or 127 has none to put
+abbrev pub nodesPut : List ℕ → ℕ → List ℕ → List ℕ → List ℕ
+nodesPut s at ws page = cond (reserved ws) s (put s at (flat (map (nodeAt page) (slots ws))))
+
+-- packing into lent memory of 126 nodes: the order of pack, "page length 2, 4", then 2 for that memory; it answers the count
+unfoldable pub packIntoAnswer : List ℕ → List ℕ → List ℕ → Answer ℕ
+packIntoAnswer ws page nodes =
+    cond (eqb (length page) 4096) (cond (reserved ws) (refused 4) (cond (eqb (length nodes) 4032) (given (countOf ws)) (refused 2)))
+    (refused 2)
+
+-- the packed table, node after node; a refusal leaves the memory
+abbrev pub packedInto : List ℕ → List ℕ → List ℕ → List ℕ
+packedInto ws page nodes = cond (accepted (packIntoAnswer ws page nodes)) (flat (tableOf page (slots ws))) nodes
 
 -- the order of unpack: "page length 2, 4, nodes length 2"
 unfoldable pub unpackAnswer : List ℕ → ℕ → List ℕ → Answer (Unit {0})

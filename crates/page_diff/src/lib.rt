@@ -2,17 +2,29 @@
 // page_diff.rs. A diff goes by value throughout; pages are lent.
 ghost use mathlib.Core.Path.{_≡_};
 ghost use mathlib.Core.Bool.{false};
+ghost use mathlib.Core.List.{map};
+ghost use Prim.Native.Nat.{_+_, _*_, _≤_};
 ghost use lib.ListN.{length, replicate};
 ghost use Rattle.answers.specs.Refusals.{numberOf};
-ghost use Rattle.blocks.specs.Blocks.{tabulate};
-ghost use Rattle.answers.specs.Answers.{refused, outcomeSaid, truthSaid};
+ghost use Rattle.blocks.specs.Blocks.{put, flat, tabulate};
+ghost use Rattle.answers.specs.Answers.{refused, outcomeSaid, truthSaid, numberSaid};
 ghost use Rattle.page_diff.specs.Diff.{slots, marked, countOf, reserved, setAnswer, setWords, askAnswer, clearedWords, joined, firstSlot, withoutFirst, bytesOfWords, readAnswer, readWords};
-ghost use Rattle.page_diff.specs.Pack.{tableOf, packedBy, packAnswer, packedOf, unpackedByte, Unpacks};
+ghost use Rattle.page_diff.specs.Pack.{nodeAt, tableOf, packedBy, packAnswer, packedOf, nodesPut, packIntoAnswer, packedInto, unpackedByte, Unpacks};
+use answers::Number;
 use answers::Outcome;
 use answers::Refusal;
 use answers::Truth;
 
+// A page is 126 nodes of 32 bytes, 24 bytes that nobody has, the elided children and the page id.
+pub const PAGE_SIZE: usize = 4096;
+
 pub const NODES_PER_PAGE: usize = 126;
+
+// The bytes of its nodes.
+const NODES_SIZE: usize = 4032;
+
+// Where it has its elided children.
+pub const ELIDED_AT: usize = 4056;
 
 const CLEAR_BIT: u64 = 0x8000_0000_0000_0000;
 
@@ -212,7 +224,7 @@ pub fn nodes_of(p: Packed) -> [[u8; 32]; 126]
 pub fn pack_changed_nodes(d: Diff, page: &[u8]) -> Packing
     ensures { λ r. ⌜ (outcomeSaid (r .outcome) ≡ packAnswer (d .words) (now (page .entry))) × (r .packed ≡ packedOf (d .words) (now (page .entry))) ⌝ }
 {
-    if page.len() != 4096 {
+    if page.len() != PAGE_SIZE {
         return refused_packing(Refusal::LengthUnfit);
     }
     if is_reserved(d) {
@@ -245,13 +257,72 @@ fn pack_nodes(d: Diff, page: &[u8]) -> [[u8; 32]; 126]
     loop {
         let next = next_slot(left);
         let s = next.slot;
-        if 126 <= s {
+        if NODES_PER_PAGE <= s {
             return nodes;
         }
         nodes[c] = blocks::block_32(page, 32 * s);
         c += 1;
         left = next.rest;
     }
+}
+
+// The nodes of a page's marked slots, put one after the other.
+fn put_marked_nodes(s: &mut [u8], at: usize, d: Diff, page: &[u8])
+    requires { ⌜ (reserved (d .words) ≡ false) × (at + 32 * countOf (d .words) ≤ length (now s)) ⌝ }
+    ensures { λ _. ⌜ now (s .exit) ≡ put (now (s .entry)) at (flat (map (nodeAt (now (page .entry))) (slots (d .words)))) ⌝ }
+{
+    let mut c = 0;
+    let mut left = d;
+    loop {
+        let next = next_slot(left);
+        let slot = next.slot;
+        if NODES_PER_PAGE <= slot {
+            return;
+        }
+        blocks::put_32(s, at + 32 * c, blocks::block_32(page, 32 * slot));
+        c += 1;
+        left = next.rest;
+    }
+}
+
+// Puts the nodes of a page's marked slots into s from `at` on, in the slots' order; every other byte stays.
+// Nodes that would go past the end are not put, nor those of a diff with bit 126 or 127.
+pub fn put_page_nodes(s: &mut [u8], at: usize, d: Diff, page: &[u8])
+    ensures { λ _. ⌜ now (s .exit) ≡ nodesPut (now (s .entry)) at (d .words) (now (page .entry)) ⌝ }
+{
+    if is_reserved(d) {
+        return;
+    }
+    let size = 32 * count(d);
+    if s.len() < size {
+        return;
+    }
+    if s.len() - size < at {
+        return;
+    }
+    put_marked_nodes(s, at, d, page);
+}
+
+// Packs the nodes of a page's marked slots into lent memory of 126 nodes, zeros after them, and answers
+// their count: what `pack_changed_nodes` answers by value, with no table between. Refused: a page that is not
+// 4,096 bytes (2), bit 126 or 127 (4), memory that is not 4,032 bytes (2).
+pub fn pack_into(nodes: &mut [u8], d: Diff, page: &[u8]) -> Number
+    ensures { λ r. ⌜ (numberSaid r ≡ packIntoAnswer (d .words) (now (page .entry)) (now (nodes .entry))) × (now (nodes .exit) ≡ packedInto (d .words) (now (page .entry)) (now (nodes .entry))) ⌝ }
+{
+    if page.len() != PAGE_SIZE {
+        return Number::Refused(Refusal::LengthUnfit);
+    }
+    if is_reserved(d) {
+        return Number::Refused(Refusal::DiffReserved);
+    }
+    if nodes.len() != NODES_SIZE {
+        return Number::Refused(Refusal::LengthUnfit);
+    }
+    let count = count(d);
+    let used = 32 * count;
+    put_page_nodes(nodes, 0, d, page);
+    blocks::put_zeros(nodes, used, NODES_SIZE - used);
+    Number::Is(count as u64)
 }
 
 // Puts packed nodes, by value with their count, back at the marked slots of a page; every other byte stays.
@@ -272,7 +343,7 @@ pub fn unpack_changed_nodes(
 pub fn unpack_lent_nodes(d: Diff, nodes: &[[u8; 32]; 126], held: usize, page: &mut [u8]) -> Outcome
     ensures { λ r. ⌜ Unpacks (d .words) (now (nodes .entry)) held (now (page .entry)) r (now (page .exit)) ⌝ }
 {
-    if page.len() != 4096 {
+    if page.len() != PAGE_SIZE {
         return Outcome::Refused(Refusal::LengthUnfit);
     }
     if is_reserved(d) {
@@ -295,7 +366,7 @@ fn unpack_nodes(d: Diff, nodes: &[[u8; 32]; 126], page: &mut [u8])
     loop {
         let next = next_slot(left);
         let s = next.slot;
-        if 126 <= s {
+        if NODES_PER_PAGE <= s {
             return;
         }
         let n = nodes[c];

@@ -146,17 +146,6 @@ pub fn pending(old: u64, new: u64, meta: u64, file_len: u64) -> Decision
     Decision::Refused(Refusal::NothingPending)
 }
 
-// Every byte becomes zero.
-fn zero_all(s: &mut [u8])
-    ensures { λ _. ⌜ now (s .exit) ≡ replicate (length (now (s .entry))) 0 ⌝ }
-{
-    let mut i = 0;
-    while i < s.len() {
-        s[i] = 0;
-        i += 1;
-    }
-}
-
 // Copies the page that starts at `from` in one image to `at` in another; every other byte stays.
 fn copy_page(image: &mut [u8], at: usize, source: &[u8], from: usize)
     requires { ⌜ (at + 4096 ≤ length (now image)) × (from + 4096 ≤ length (now source)) ⌝ }
@@ -213,13 +202,13 @@ fn rehash_to(
     requires { ⌜ (imageFits «old_n» (length (now «old_image»)) ≡ true) × (imageFits «new_n» (length (now «new_image»)) ≡ true) × (length (now hashes) ≡ «old_n») ⌝ }
     ensures { λ r. ⌜ (grownSaid r ≡ endOf done (copied hitLimit (now («old_image» .entry)) «old_n» «new_n» (now (hashes .entry)))) × (now («new_image» .exit) ≡ imageOr (zeroed «new_n») (copied hitLimit (now («old_image» .entry)) «old_n» «new_n» (now (hashes .entry)))) ⌝ }
 {
-    zero_all(new_image);
+    blocks::zero_all(new_image);
     let mut b = 0;
     while b < old_n {
         let hash = hashes[b];
         let moved = move_bucket(old_image, old_n, b, hash, new_image, new_n);
         if let Outcome::Refused(why) = moved {
-            zero_all(new_image);
+            blocks::zero_all(new_image);
             return Grown::Refused(why);
         }
         b += 1;

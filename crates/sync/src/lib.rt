@@ -5,7 +5,7 @@ ghost use mathlib.Core.Path.{_≡_};
 ghost use mathlib.Core.Bool.{true};
 ghost use mathlib.Core.List.{[]};
 ghost use Prim.Native.Nat.{_+_, _-_, _/_, _^_, _≤_, _<_, min};
-ghost use lib.ListN.{length, set, replicate};
+ghost use lib.ListN.{length, set};
 ghost use Rattle.answers.specs.Answers.{given, refused};
 ghost use Rattle.answers.specs.Refusals.{numberOf};
 ghost use Rattle.ht_file.specs.Places.{tagsFit, tagPages};
@@ -467,17 +467,6 @@ fn full_tags(tags: &[u8], n: usize) -> u64
     0
 }
 
-// Zeros all over.
-fn zero(marks: &mut [u8])
-    ensures { λ _. ⌜ now (marks .exit) ≡ replicate (length (now (marks .entry))) 0 ⌝ }
-{
-    let mut i = 0;
-    while i < marks.len() {
-        marks[i] = 0;
-        i += 1;
-    }
-}
-
 // What the start of a sync has come to: the state for its first change.
 pub enum Begun {
     Ready(SyncState),
@@ -512,7 +501,7 @@ pub fn begin_sync(
         if let Outcome::Refused(why) = outcome {
             return Begun::Refused(why);
         }
-        zero(marks);
+        blocks::zero_all(marks);
         let writer = begun.writer;
         let start = SyncState {
             n,

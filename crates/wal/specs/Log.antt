@@ -2,7 +2,7 @@
 use mathlib.Core.List.{List, [], _∷_, _++_}
 use Prim.Native.Nat.{ℕ, _+_, _-_, _*_, _/_}
 use lib.ListN.{replicate}
-use Rattle.blocks.specs.Blocks.{bytesOf}
+use Rattle.blocks.specs.Blocks.{bytesOf, flat}
 use Rattle.page_diff.specs.Diff.{bytesOfWords}
 
 -- an entry: a clear of a bucket; or an update with its id, the words of its diff, the marked nodes, the elided children and the bucket
@@ -22,24 +22,25 @@ abbrev pub startRecord : ℕ → List ℕ
 startRecord sync = mark 1 ++ bytesOf 4 sync
 
 abbrev pub startSize : ℕ
-startSize = 5
-
--- nodes one after the other
-unfoldable pub flat : List (List ℕ) → List ℕ
-flat [] = []
-flat (n ∷ ns) = n ++ flat ns
+startSize = markSize + 4
 
 -- "clear = 3, bucket u64; update = 4, id 32, diff 16, the marked nodes, elided 8, bucket u64"
 unfoldable pub recordOf : Entry → List ℕ
 recordOf (clear b) = mark 3 ++ bytesOf 8 b
 recordOf (update id ws ns elided b) = mark 4 ++ (id ++ (bytesOfWords ws ++ (flat ns ++ (elided ++ bytesOf 8 b))))
 
--- "(65 + 32c bytes)" for c nodes
+-- the bytes after the mark, and the whole record: "(65 + 32c bytes)" for c nodes
+abbrev pub clearBody : ℕ
+clearBody = 8
+
+abbrev pub updateBody : ℕ → ℕ
+updateBody c = 64 + 32 * c
+
 abbrev pub clearSize : ℕ
-clearSize = 9
+clearSize = markSize + 8
 
 abbrev pub updateSize : ℕ → ℕ
-updateSize c = 65 + 32 * c
+updateSize c = markSize + 64 + 32 * c
 
 -- the records of entries, one after the other
 unfoldable pub recordsOf : List Entry → List ℕ

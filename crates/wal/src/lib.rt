@@ -11,6 +11,18 @@ pub const WAL_ENTRY_TAG_UPDATE: u8 = 4;
 
 pub const PAGE_SIZE: usize = 4096;
 
+// The mark of a record; the bytes after it, of a clear and of an update without its nodes.
+pub const MARK_SIZE: usize = 1;
+
+pub const CLEAR_BODY: usize = 8;
+
+pub const UPDATE_BODY: usize = 64;
+
+// Where after its mark an update has its diff, and its nodes.
+pub const DIFF_AT: usize = 32;
+
+pub const NODES_AT: usize = 48;
+
 // The bytes of a start and of a clear, and those of an update without its nodes.
 pub const START_SIZE: usize = 5;
 

@@ -6,4 +6,3 @@ pub mod Runs
 pub mod RunExamples
 pub mod PastCount
 pub mod Examples
-pub mod Packing

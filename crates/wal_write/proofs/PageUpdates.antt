@@ -21,7 +21,7 @@ use Rattle.wal.specs.Run.{Wide, Rows, Handed, Run, with-update}
 use Rattle.wal.specs.declared.Writer.{Writer}
 use Rattle.wal.specs.declared.Writer.the-variants.{Fresh, Open, Finished}
 use Rattle.wal_write.specs.Calls.{updateWriter, updateLog, pageUpdateAnswer, pageUpdate, pageUpdateWriter, pageUpdateLog}
-use Rattle.wal_write.proofs.Bytes.{row-there}
+use Rattle.page_diff.proofs.Nodes.{row-there}
 use Rattle.wal_write.proofs.CallLaws.{tested, update-tests, page-tests}
 
 -- ---- `write_page_update` of a whole page is `write_update` of the packed table

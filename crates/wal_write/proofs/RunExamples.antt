@@ -9,9 +9,9 @@ use lib.ListN.{length, getD, take, replicate}
 use Rattle.answers.specs.Answers.{given}
 use Rattle.answers.specs.declared.Outcome.the-variants as outcome
 use Rattle.answers.specs.declared.Number.the-variants as num
-use Rattle.blocks.specs.Blocks.{block, put}
+use Rattle.blocks.specs.Blocks.{block, put, flat}
 use Rattle.page_diff.specs.Diff.{digit, marked, slotsBelow}
-use Rattle.wal.specs.Log.{Entry, clear, update, flat, recordOf, recordsOf}
+use Rattle.wal.specs.Log.{Entry, clear, update, recordOf, recordsOf}
 use Rattle.wal.specs.Reader.{readLog}
 use Rattle.wal.specs.Run.{Wide, Rows, Run}
 use Rattle.wal.specs.Writer.{beginAnswer, beginLog, clearAnswer, updateAnswer, finishAnswer, finishLog}

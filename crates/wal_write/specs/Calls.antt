@@ -9,8 +9,8 @@ use lib.ListN.{length, take}
 use Rattle.answers.specs.Answers.{Answer, given, refused, accepted, outcomeSaid, numberSaid}
 use Rattle.blocks.specs.Blocks.{block}
 use Rattle.page_diff.specs.Diff.{slots, countOf, reserved}
-use Rattle.page_diff.specs.Pack.{nodeAt, tableOf}
-use Rattle.wal.specs.Log.{Entry, flat, clear, update, recordOf, markSize, clearSize, updateSize}
+use Rattle.page_diff.specs.Pack.{nodeAt}
+use Rattle.wal.specs.Log.{Entry, clear, update, recordOf, markSize, clearSize, updateSize}
 use Rattle.wal.specs.Writer.{position, ifOpen, ifRoom, beginAnswer, beginWriter, beginLog, clearAnswer, updateAnswer, recordLog, recordWriter, finishAnswer, finishWriter, finishLog}
 use Rattle.wal.specs.Run.{Wide, Rows}
 use Rattle.wal.specs.declared.Writer.{Writer}
@@ -53,16 +53,6 @@ pageUpdateWriter log w ws page = recordWriter (pageUpdateAnswer log w ws page) w
 abbrev pub pageUpdateLog : List ℕ → Writer → List ℕ → List ℕ → List ℕ → ℕ → List ℕ
 pageUpdateLog log w id ws page b =
     recordLog (pageUpdateAnswer log w ws page) log w (recordOf (pageUpdate id ws page b))
-
--- packing into lent memory of 126 nodes: the order of pack, "page length 2, 4", then 2 for that memory; it answers the count
-unfoldable pub packIntoAnswer : List ℕ → List ℕ → List ℕ → Answer ℕ
-packIntoAnswer ws page nodes =
-    cond (eqb (length page) 4096) (cond (reserved ws) (refused 4) (cond (eqb (length nodes) 4032) (given (countOf ws)) (refused 2)))
-    (refused 2)
-
--- the packed table, node after node; a refusal leaves the memory
-abbrev pub packedInto : List ℕ → List ℕ → List ℕ → List ℕ
-packedInto ws page nodes = cond (accepted (packIntoAnswer ws page nodes)) (flat (tableOf page (slots ws))) nodes
 
 -- ---- what each call promises, of the log lent, the state, what else it is given, its answer r and the log afterwards: the answer, the state
 -- and the log by the definitions above, and then the widths that its types give

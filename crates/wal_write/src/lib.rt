@@ -2,19 +2,17 @@
 // at each call; a refused call leaves both as they were. A position is compared with what the slice has
 // left, so no sum wraps on one that no call answered.
 ghost use mathlib.Core.Path.{_≡_};
-ghost use mathlib.Core.Bool.{false};
-ghost use mathlib.Core.List.{_++_, map};
+ghost use mathlib.Core.List.{_++_};
 ghost use Prim.Native.Nat.{_+_, _*_, _/_, _≤_};
 ghost use lib.Dec.{leb};
-ghost use lib.ListN.{length, take, replicate};
+ghost use lib.ListN.{length, take};
 ghost use Rattle.answers.specs.Refusals.{numberOf};
-ghost use Rattle.answers.specs.Answers.{refused, outcomeSaid, numberSaid};
-ghost use Rattle.blocks.specs.Blocks.{bytesOf, put};
-ghost use Rattle.page_diff.specs.Diff.{slots, countOf, reserved, bytesOfWords};
-ghost use Rattle.page_diff.specs.Pack.{nodeAt};
-ghost use Rattle.wal.specs.Log.{clear, mark, flat, recordOf, clearSize};
+ghost use Rattle.answers.specs.Answers.{refused, outcomeSaid};
+ghost use Rattle.blocks.specs.Blocks.{bytesOf, put, flat};
+ghost use Rattle.page_diff.specs.Diff.{bytesOfWords};
+ghost use Rattle.wal.specs.Log.{clear, mark, recordOf, clearSize};
 ghost use Rattle.wal.specs.Run.{Rows};
-ghost use Rattle.wal_write.specs.Calls.{roomIn, Begins, Clears, Updates, UpdatesPage, Finishes, packIntoAnswer, packedInto};
+ghost use Rattle.wal_write.specs.Calls.{roomIn, Begins, Clears, Updates, UpdatesPage, Finishes};
 use answers::Number;
 use answers::Outcome;
 use answers::Refusal;
@@ -29,12 +27,6 @@ const NODES_AT: usize = 49;
 
 // The bytes after its nodes.
 const TAIL_SIZE: usize = 16;
-
-// The bytes of a table of 126 nodes.
-const TABLE_SIZE: usize = 4032;
-
-// Where a page has its elided children.
-const ELIDED_AT: usize = 4056;
 
 // What a call answers, and the state after it.
 pub struct Written {
@@ -145,25 +137,6 @@ fn put_nodes(log: &mut [u8], at: usize, nodes: &[[u8; 32]; 126], held: usize)
     }
 }
 
-// The nodes of a page's marked slots, in the slots' order.
-fn put_page_nodes(log: &mut [u8], at: usize, d: Diff, page: &[u8])
-    requires { ⌜ (reserved (d .words) ≡ false) × (at + 32 * countOf (d .words) ≤ length (now log)) ⌝ }
-    ensures { λ _. ⌜ now (log .exit) ≡ put (now (log .entry)) at (flat (map (nodeAt (now (page .entry))) (slots (d .words)))) ⌝ }
-{
-    let mut c = 0;
-    let mut left = d;
-    loop {
-        let next = page_diff::next_slot(left);
-        let s = next.slot;
-        if page_diff::NODES_PER_PAGE <= s {
-            return;
-        }
-        blocks::put_32(log, at + 32 * c, blocks::block_32(page, 32 * s));
-        c += 1;
-        left = next.rest;
-    }
-}
-
 // The bytes of an update after its nodes: the elided children, the bucket.
 fn put_tail(log: &mut [u8], at: usize, elided: [u8; 8], bucket: u64)
     requires { ⌜ at + 16 ≤ length (now log) ⌝ }
@@ -252,51 +225,17 @@ pub fn write_page_update(
         return kept(w, Refusal::NoRoom);
     }
     put_head(log, at, id, d);
-    put_page_nodes(log, at + NODES_AT, d, page);
+    page_diff::put_page_nodes(log, at + NODES_AT, d, page);
     put_tail(
         log,
         at + (size - TAIL_SIZE),
-        blocks::block_8(page, ELIDED_AT),
+        blocks::block_8(page, page_diff::ELIDED_AT),
         bucket,
     );
     Written {
         outcome: Outcome::Done,
         writer: Writer::Open(at + size),
     }
-}
-
-// `n` zeros from `at` on.
-fn put_zeros(log: &mut [u8], at: usize, n: usize)
-    requires { ⌜ at + n ≤ length (now log) ⌝ }
-    ensures { λ _. ⌜ now (log .exit) ≡ put (now (log .entry)) at (replicate n 0) ⌝ }
-{
-    let mut i = 0;
-    while i < n {
-        log[at + i] = 0;
-        i += 1;
-    }
-}
-
-// Packs the nodes of a page's marked slots into lent memory of 126 nodes, zeros after them, and answers
-// their count: what `pack_changed_nodes` answers by value, with no table between. Refused: a page that is not
-// 4,096 bytes (2), bit 126 or 127 (4), memory that is not 4,032 bytes (2).
-pub fn pack_into(nodes: &mut [u8], d: Diff, page: &[u8]) -> Number
-    ensures { λ r. ⌜ (numberSaid r ≡ packIntoAnswer (d .words) (now (page .entry)) (now (nodes .entry))) × (now (nodes .exit) ≡ packedInto (d .words) (now (page .entry)) (now (nodes .entry))) ⌝ }
-{
-    if page.len() != wal::PAGE_SIZE {
-        return Number::Refused(Refusal::LengthUnfit);
-    }
-    if page_diff::is_reserved(d) {
-        return Number::Refused(Refusal::DiffReserved);
-    }
-    if nodes.len() != TABLE_SIZE {
-        return Number::Refused(Refusal::LengthUnfit);
-    }
-    let count = page_diff::count(d);
-    let used = 32 * count;
-    put_page_nodes(nodes, 0, d, page);
-    put_zeros(nodes, used, TABLE_SIZE - used);
-    Number::Is(count as u64)
 }
 
 // Ends the log, with zeros up to the next page, and answers its length: 12, 13. The slice past that
@@ -318,7 +257,7 @@ pub fn finish(log: &mut [u8], w: Writer) -> FinishedAnswer
     }
     let len = (at / wal::PAGE_SIZE + 1) * wal::PAGE_SIZE;
     log[at] = wal::WAL_ENTRY_TAG_END;
-    put_zeros(log, at + 1, len - (at + 1));
+    blocks::put_zeros(log, at + 1, len - (at + 1));
     FinishedAnswer {
         answer: Number::Is(len as u64),
         writer: Writer::Finished(len),

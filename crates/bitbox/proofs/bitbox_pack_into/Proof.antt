@@ -2,7 +2,7 @@
 use mathlib.Core.Path.{_≡_, sym, ap, _∙_}
 use mathlib.Core.List.{List}
 use Prim.Native.Nat.{ℕ}
-use Rattle.wal_write.specs.Calls.{packIntoAnswer, packedInto}
+use Rattle.page_diff.specs.Pack.{packIntoAnswer, packedInto}
 use Rattle.bitbox.specs.Words.{numberWords}
 use borrow.Author.Needs.{needs}
 use Rattle.bitbox.proofs.bitbox_pack_into.Statement.{statement}

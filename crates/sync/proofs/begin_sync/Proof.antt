@@ -19,7 +19,6 @@ use Rattle.sync.proofs.begin_sync.Reads as reads
 use Rattle.sync.proofs.begin_sync.Lts as lts
 use Rattle.ht_file.proofs.tags_fit.Reads as tags-fit-reads
 use Rattle.sync.proofs.full_tags.Reads as full-tags-reads
-use Rattle.sync.proofs.zero.Reads as zero-reads
 use Rattle.wal_write.proofs.begin.Reads as begin-reads
 
 -- what is lent
@@ -101,8 +100,8 @@ enum-told : tie.Need-enum-told
 enum-told c = search needs
 
 -- src/lib.rt:431:9
-zero-requires : tie.Need-zero-requires
-zero-requires c κs = search needs
+zero-all-requires : tie.Need-zero-all-requires
+zero-all-requires c κs = search needs
 
 -- src/lib.rt:436:23
 full-tags-requires : tie.Need-full-tags-requires
@@ -118,7 +117,7 @@ same-length-3 c = search needs
 
 -- src/lib.rt:438:9
 returns-5 : tie.Need-returns-5
-returns-5 c = let u = c .before .before .before .before .before .before .before .before .before .before .before in let e = u .before in let t = e .before .before in let o = start t in let b = c .before .before .before .before .before .before .before .before .before .begin in let h = sym (b .ensures .0) ∙ outcome-given (b .result .outcome) (c .before .before .before .before .before .before .match .keys2) in begin-given (n o) (tags o) (marks o) (log o) (pages o) (count o) (sync o) (stateOf (n o) (b .result .writer) (c .full-tags .result)) (memOf (tags o) (c .before .before .before .zero .last .0) [] (b .last .0)) (start-begin (n o) (tags o) (marks o) (log o) (pages o) (count o) (fits t) (whole e) (u .if4 .left) ∙ h) (ap₂ (stateOf (n o)) (b .ensures .1 .0 ∙ begun-open (log o) (sync o) h) (c .full-tags .ensures)) (ap₂ (λ (x y : List ℕ). memOf (tags o) x [] y) (c .before .before .before .zero .ensures) (b .ensures .1 .1))
+returns-5 c = let u = c .before .before .before .before .before .before .before .before .before .before .before in let e = u .before in let t = e .before .before in let o = start t in let b = c .before .before .before .before .before .before .before .before .before .begin in let h = sym (b .ensures .0) ∙ outcome-given (b .result .outcome) (c .before .before .before .before .before .before .match .keys2) in begin-given (n o) (tags o) (marks o) (log o) (pages o) (count o) (sync o) (stateOf (n o) (b .result .writer) (c .full-tags .result)) (memOf (tags o) (c .before .before .before .zero-all .last .0) [] (b .last .0)) (start-begin (n o) (tags o) (marks o) (log o) (pages o) (count o) (fits t) (whole e) (u .if4 .left) ∙ h) (ap₂ (stateOf (n o)) (b .ensures .1 .0 ∙ begun-open (log o) (sync o) h) (c .full-tags .ensures)) (ap₂ (λ (x y : List ℕ). memOf (tags o) x [] y) (c .before .before .before .zero-all .ensures) (b .ensures .1 .1))
 
 -- src/lib.rt:405:1
 returns-6 : tie.Need-returns-6
@@ -138,7 +137,7 @@ begin-sync-spec =
     same-length
     returns-4
     enum-told
-    zero-requires
+    zero-all-requires
     full-tags-requires
     same-length-2
     same-length-3

@@ -86,7 +86,7 @@ sub-put-zeros : tie.Need-sub-put-zeros
 sub-put-zeros c = omega arith
 
 put-zeros-requires : tie.Need-put-zeros-requires
-put-zeros-requires c κs = simp length-set (omega (arith, within (c .before)))
+put-zeros-requires c κs = search needs
 
 same-length : tie.Need-same-length
 same-length c = c .before .before .put-zeros .kept .0 ∙ simp length-set

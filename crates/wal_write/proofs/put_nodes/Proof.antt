@@ -4,10 +4,9 @@ use mathlib.Core.Path.{_≡_, sym, ap, _∙_, subst}
 use native.Mathlib.Omega.{arith}
 use lib.ListN.{length, take}
 use borrow.Author.Count.{below-more}
-use Rattle.blocks.specs.Blocks.{put}
-use Rattle.wal.specs.Log.{flat}
+use Rattle.blocks.specs.Blocks.{put, flat}
 use Rattle.wal.specs.Run.{Rows}
-use Rattle.wal_write.proofs.Bytes.{Nodes, nodes-start, nodes-length, table-turn}
+use Rattle.page_diff.proofs.Nodes.{Nodes, nodes-start, nodes-length, table-turn}
 use Rattle.wal_write.proofs.put_nodes.Statement.{statement}
 use Rattle.wal_write.proofs.put_nodes.Tie as tie
 

@@ -6,7 +6,7 @@ use native.Mathlib.Omega.{arith}
 use lib.ListN.{length}
 use borrow.Author.Needs.{needs}
 use Rattle.blocks.specs.Blocks.{bytesOf, put}
-use Rattle.wal_write.proofs.Bytes.{put-then}
+use Rattle.blocks.proofs.Parts.{put-then}
 use Rattle.wal_write.proofs.put_tail.Statement.{statement}
 use Rattle.wal_write.proofs.put_tail.Tie as tie
 

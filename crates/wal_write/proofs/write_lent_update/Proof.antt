@@ -11,10 +11,10 @@ use mir.Val.{Fits}
 use borrow.Author.Needs.{needs}
 use borrow.Author.Tests.{leb-true, eq-eqb, ne-eqb, not-true, not-false}
 use Rattle.answers.specs.Answers.{Answer, given, refused, accepted, outcomeSaid}
-use Rattle.blocks.specs.Blocks.{bytesOf, put}
+use Rattle.blocks.specs.Blocks.{bytesOf, put, flat}
 use Rattle.page_diff.specs.Diff.{countOf, reserved}
 use Rattle.page_diff.proofs.Walk.{plain-count}
-use Rattle.wal.specs.Log.{update, flat, recordOf}
+use Rattle.wal.specs.Log.{update, recordOf}
 use Rattle.wal.specs.Writer.{capacity, updateAnswer}
 use Rattle.wal.specs.Run.{Wide}
 use Rattle.wal.specs.declared.Writer.{Writer}

@@ -11,19 +11,20 @@ use mir.Val.{Fits}
 use borrow.Author.Needs.{needs}
 use borrow.Author.Tests.{leb-true, eq-eqb, ne-eqb, not-true, not-false}
 use Rattle.answers.specs.Answers.{Answer, given, refused, outcomeSaid}
-use Rattle.blocks.specs.Blocks.{bytesOf, block, put}
+use Rattle.blocks.specs.Blocks.{bytesOf, block, put, flat}
 use Rattle.blocks.proofs.Laws.{block-length}
 use Rattle.page_diff.specs.Diff.{slots, countOf, reserved}
 use Rattle.page_diff.specs.Pack.{nodeAt}
 use Rattle.page_diff.proofs.Walk.{plain-count}
-use Rattle.wal.specs.Log.{flat, recordOf}
+use Rattle.wal.specs.Log.{recordOf}
 use Rattle.wal.specs.Writer.{capacity}
 use Rattle.wal.specs.Run.{Wide}
 use Rattle.wal.specs.declared.Writer.{Writer}
 use Rattle.wal.specs.declared.Writer.the-variants.{Open}
 use Rattle.wal_write.specs.Calls.{pageUpdateAnswer, pageUpdate, UpdatesPage}
 use Rattle.wal_write.specs.declared.Written.{Written}
-use Rattle.wal_write.proofs.Bytes.{put-update, page-nodes-length}
+use Rattle.page_diff.proofs.Nodes.{page-nodes-length, nodes-plain}
+use Rattle.wal_write.proofs.Bytes.{put-update}
 use Rattle.wal_write.proofs.CallLaws.{page-tests, not-open, unfit, reserved-bit, no-room, taken, record-refused, record-given}
 use Rattle.wal_write.proofs.write_page_update.Statement.{statement}
 use Rattle.wal_write.proofs.write_page_update.Tie as tie
@@ -185,10 +186,7 @@ add-put-page-nodes : tie.Need-add-put-page-nodes
 add-put-page-nodes c = omega (arith, fits (c .before .before .before .before .before))
 
 put-page-nodes-requires : tie.Need-put-page-nodes-requires
-put-page-nodes-requires c κs =
-    let head = c .before .before .before in
-    let past = head .before .before in
-    (plain (past .before .before .before), omega (arith, fits past, head .put-head .kept .0))
+put-page-nodes-requires c κs = search needs
 
 sub-put-tail : tie.Need-sub-put-tail
 sub-put-tail c = search needs
@@ -231,7 +229,7 @@ returns-5 c =
     (tail .put-tail .ensures .0
     ∙ ap (λ (m : ℕ). put (nodes .put-page-nodes .last .0) (at k + (65 + 32 * m - 16)) (read .block-8 .result ++ bytesOf 8 (s .args .bucket))) (counted past)
     ∙ ap (λ (e : List ℕ). put (nodes .put-page-nodes .last .0) (at k + (65 + 32 * n - 16)) (e ++ bytesOf 8 (s .args .bucket))) (read .block-8 .ensures)
-    ∙ ap (λ (l : List ℕ). put l (at k + (65 + 32 * n - 16)) (el ++ bytesOf 8 (s .args .bucket))) (nodes .put-page-nodes .ensures ∙ ap (λ (l : List ℕ). put l (at k + 49) (flat ns)) (head .put-head .ensures .0))
+    ∙ ap (λ (l : List ℕ). put l (at k + (65 + 32 * n - 16)) (el ++ bytesOf 8 (s .args .bucket))) (nodes .put-page-nodes .ensures ∙ nodes-plain (head .put-head .last .0) (at k + 49) (ws s) (page s) (plain (past .before .before .before)) ∙ ap (λ (l : List ℕ). put l (at k + 49) (flat ns)) (head .put-head .ensures .0))
     ∙ put-update (log s) (at k) (s .args .id) (ws s) ns el (s .args .bucket) n (head .put-head .ensures .1) (page-nodes-length (page s) (slots (ws s))) (block-length 8 (page s) 4056) (fits past)) in
     (left .0, left .1, wide s)
 

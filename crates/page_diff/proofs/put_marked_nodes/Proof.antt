@@ -5,18 +5,18 @@ use mathlib.Core.List.{List, map}
 use native.Mathlib.Omega.{arith}
 use lib.ListN.{length-map}
 use Rattle.blocks.specs.Blocks.{put}
 use Rattle.page_diff.specs.Diff.{slots, countOf}
 use Rattle.page_diff.specs.Pack.{nodeAt}
 use Rattle.page_diff.proofs.Walk.{Walk, walk-start, walk-at, walk-on, walk-step, walk-end, plain-count}
-use Rattle.wal_write.proofs.Bytes.{Nodes, nodes-start, nodes-length, page-turn, nodes-end}
-use Rattle.wal_write.proofs.put_page_nodes.Statement.{statement}
-use Rattle.wal_write.proofs.put_page_nodes.Tie as tie
+use Rattle.page_diff.proofs.Nodes.{Nodes, nodes-start, nodes-length, page-turn, nodes-end}
+use Rattle.page_diff.proofs.put_marked_nodes.Statement.{statement}
+use Rattle.page_diff.proofs.put_marked_nodes.Tie as tie
 
 abbrev Inv-loop : tie.InvT-loop
-Inv-loop log₀ at page c₀ left₀ log c left = Walk (left₀ .words) (left .words) c × Nodes log₀ at (map (nodeAt page) (slots (left₀ .words))) log c
+Inv-loop s₀ at page c₀ left₀ s c left = Walk (left₀ .words) (left .words) c × Nodes s₀ at (map (nodeAt page) (slots (left₀ .words))) s c
 
 abbrev μ-loop : tie.MeasureT-loop
-μ-loop log₀ at page c₀ left₀ log c left = countOf (left₀ .words) - c
+μ-loop s₀ at page c₀ left₀ s c left = countOf (left₀ .words) - c
 
 -- in a turn there is a slot left
 module _ (c : tie.Else1 Inv-loop μ-loop) where
@@ -33,7 +33,7 @@ loop-holds : tie.Need-loop-holds Inv-loop μ-loop
 loop-holds c =
     let start = c .before .before in
     let args = start .args in
-    (walk-start (args .d .words), nodes-start (args .log .now) (args .at) (map (nodeAt (args .page .now)) (slots (args .d .words))) (omega (arith, start .pre .1)))
+    (walk-start (args .d .words), nodes-start (args .s .now) (args .at) (map (nodeAt (args .page .now)) (slots (args .d .words))) (omega (arith, start .pre .1)))
 
 next-slot-requires : tie.Need-next-slot-requires Inv-loop μ-loop
 next-slot-requires c κs = tt
@@ -42,7 +42,7 @@ same-length : tie.Need-same-length Inv-loop μ-loop
 same-length c =
     let at-loop = c .before .before in
     let args = at-loop .before .before .before .args in
-    nodes-length (args .log .now) (args .at) (map (nodeAt (args .page .now)) (slots (args .d .words))) (at-loop .loop .log) (at-loop .loop .c) (at-loop .loop .inv .1)
+    nodes-length (args .s .now) (args .at) (map (nodeAt (args .page .now)) (slots (args .d .words))) (at-loop .loop .s) (at-loop .loop .c) (at-loop .loop .inv .1)
 
 returns : tie.Need-returns Inv-loop μ-loop
 returns c =
@@ -50,7 +50,7 @@ returns c =
     let start = at-loop .before .before .before in
     let args = start .args in
     let ws = args .d .words in
-    nodes-end (args .log .now) (args .at) (map (nodeAt (args .page .now)) (slots ws)) (at-loop .loop .log) (at-loop .loop .c) (at-loop .loop .inv .1)
+    nodes-end (args .s .now) (args .at) (map (nodeAt (args .page .now)) (slots ws)) (at-loop .loop .s) (at-loop .loop .c) (at-loop .loop .inv .1)
     (walk-end ws (at-loop .loop .left .words) (at-loop .loop .c) (c .before .next-slot .result .slot) (at-loop .loop .inv .0) (c .before .next-slot .ensures .0) (start .pre .0) (c .if1 .taken) ∙ sym (length-map (slots ws) (nodeAt (args .page .now))))
 
 mul-put-32 : tie.Need-mul-put-32 Inv-loop μ-loop
@@ -86,12 +86,12 @@ loop-again c =
     let s = turn .before .next-slot .result .slot in
     let k = at-loop .loop .c in (
       walk-step ws (at-loop .loop .left .words) k s (at-loop .loop .inv .0) (turn .before .next-slot .ensures .0) (turn .before .next-slot .result .rest .words) (omega arith) (turn .before .next-slot .ensures .1),
-      page-turn (args .log .now) (args .at) (args .page .now) (slots ws) (at-loop .loop .log) k s (at-loop .loop .inv .1) (walk-at ws (at-loop .loop .left .words) k s (at-loop .loop .inv .0) (turn .before .next-slot .ensures .0)) (on turn) (omega (arith, on turn, start .pre .1))
-          (called .put-32 .last .0) (called .put-32 .ensures .0 ∙ ap (λ (n : List ℕ). put (at-loop .loop .log) (args .at + 32 * k) n) (node .block-32 .ensures)),
+      page-turn (args .s .now) (args .at) (args .page .now) (slots ws) (at-loop .loop .s) k s (at-loop .loop .inv .1) (walk-at ws (at-loop .loop .left .words) k s (at-loop .loop .inv .0) (turn .before .next-slot .ensures .0)) (on turn) (omega (arith, on turn, start .pre .1))
+          (called .put-32 .last .0) (called .put-32 .ensures .0 ∙ ap (λ (n : List ℕ). put (at-loop .loop .s) (args .at + 32 * k) n) (node .block-32 .ensures)),
     )
 
-pub put-page-nodes-spec : {M : Type 1} → statement M
-put-page-nodes-spec =
+pub put-marked-nodes-spec : {M : Type 1} → statement M
+put-marked-nodes-spec =
     tie.close
     (tie.spec
     Inv-loop

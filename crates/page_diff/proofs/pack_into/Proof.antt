@@ -1,21 +1,19 @@
 -- Refused test by test; else the nodes are put at the front and zeros after them, which is the table. Assumes nothing.
 use mathlib.Core.Path.{_≡_, sym, ap, _∙_}
 use mathlib.Core.Bool.{false}
-use mathlib.Core.List.{List, map}
+use mathlib.Core.List.{List}
 use Prim.Native.Nat.{ℕ, _-_, _*_, _≤_}
 use native.Mathlib.Omega.{arith}
 use lib.ListN.{length, replicate}
 use borrow.Author.Needs.{needs}
 use Rattle.answers.specs.Answers.{given}
 use Rattle.blocks.specs.Blocks.{put}
-use Rattle.blocks.proofs.Laws.{put-length}
-use Rattle.page_diff.specs.Diff.{slots, countOf, reserved}
-use Rattle.page_diff.specs.Pack.{nodeAt}
+use Rattle.page_diff.specs.Diff.{countOf, reserved}
+use Rattle.page_diff.proofs.Nodes.{nodes-plain}
 use Rattle.page_diff.proofs.Walk.{plain-count}
-use Rattle.wal.specs.Log.{flat}
-use Rattle.wal_write.proofs.Packing.{into-page, into-marks, into-memory, into-done, into-left, into-bytes}
-use Rattle.wal_write.proofs.pack_into.Statement.{statement}
-use Rattle.wal_write.proofs.pack_into.Tie as tie
+use Rattle.page_diff.proofs.PackInto.{into-page, into-marks, into-memory, into-done, into-left, into-bytes}
+use Rattle.page_diff.proofs.pack_into.Statement.{statement}
+use Rattle.page_diff.proofs.pack_into.Tie as tie
 
 -- past the tests
 module _ (c : tie.After-count) where
@@ -71,23 +69,13 @@ mul-used : tie.Need-mul-used
 mul-used c = omega (arith, c .count .ensures, few c)
 
 put-page-nodes-requires : tie.Need-put-page-nodes-requires
-put-page-nodes-requires c κs = (plain (c .before), omega (arith, few (c .before), long (c .before)))
+put-page-nodes-requires c κs = search needs
 
 sub-put-zeros : tie.Need-sub-put-zeros
 sub-put-zeros c = let at = c .before .before .before .before .before in omega (arith, at .count .ensures, few at)
 
 put-zeros-requires : tie.Need-put-zeros-requires
-put-zeros-requires c κs =
-    let put-there = c .before .before .before in
-    let at = put-there .before .before in
-    omega (
-      arith,
-      at .count .ensures,
-      few at,
-      long at,
-      ap length (put-there .put-page-nodes .ensures),
-      put-length (memory at) 0 (flat (map (nodeAt (page at)) (slots (ws at)))),
-    )
+put-zeros-requires c κs = search needs
 
 same-length : tie.Need-same-length
 same-length c = search needs
@@ -99,7 +87,7 @@ returns-4 c =
     let at = put-there .before .before in
     let used : ℕ = 32 * at .count .result in (
       ap given (at .count .ensures) ∙ sym (into-done (ws at) (page at) (memory at) (a-page at) (plain at) (long at)),
-      zeroed .put-zeros .ensures ∙ ap (λ (l : List ℕ). put l used (replicate (4032 - used) 0)) (put-there .put-page-nodes .ensures)
+      zeroed .put-zeros .ensures ∙ ap (λ (l : List ℕ). put l used (replicate (4032 - used) 0)) (put-there .put-page-nodes .ensures ∙ nodes-plain (memory at) 0 (ws at) (page at) (plain at))
           ∙ into-bytes (ws at) (page at) (memory at) used (ap (λ (k : ℕ). 32 * k) (at .count .ensures)) (a-page at) (plain at) (long at),
     )
 

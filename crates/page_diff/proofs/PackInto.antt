@@ -8,14 +8,12 @@ use lib.Dec.{eqb}
 use lib.ListN.{length, replicate, length-replicate}
 use borrow.Author.Tests.{eq-eqb, ne-eqb}
 use Rattle.answers.specs.Answers.{Answer, given, refused, accepted}
-use Rattle.blocks.specs.Blocks.{put}
+use Rattle.blocks.specs.Blocks.{put, flat}
 use Rattle.blocks.proofs.Laws.{put-both}
 use Rattle.page_diff.specs.Diff.{slots, countOf, reserved}
-use Rattle.page_diff.specs.Pack.{nodeAt, tableOf}
+use Rattle.page_diff.specs.Pack.{nodeAt, tableOf, packIntoAnswer, packedInto}
 use Rattle.page_diff.proofs.Walk.{plain-count}
-use Rattle.wal.specs.Log.{flat}
-use Rattle.wal_write.specs.Calls.{packIntoAnswer, packedInto}
-use Rattle.wal_write.proofs.Bytes.{page-nodes-length, table-bytes}
+use Rattle.page_diff.proofs.Nodes.{page-nodes-length, table-bytes}
 
 module _ (ws page nodes : List ℕ) where
   pub into-page : (length page ≡ 4096 → ⊥) → packIntoAnswer ws page nodes ≡ refused 2
