@@ -17,15 +17,15 @@ use Rattle.wal.specs.Run.{Run, logOf}
 use Rattle.wal.specs.declared.Writer.{Writer}
 use Rattle.wal.proofs.RoundTrip.{AllWellFormed, log-length, start-back, entries-back, Made, run-made, finished-log}
 use Rattle.recover.specs.Places.{withHashes, replayed}
-use Rattle.recover.specs.Replay.{Did, nothing, stale, applied, allInside, updatesIn, afterEntries, checkAnswer, afterStart, replayAnswer, replayImage, imageBy, stepsOf}
+use Rattle.recover.specs.Replay.{Did, nothing, stale, applied, allInside, updatesIn, checkAnswer, afterStart, replayAnswer, replayImage, imageBy, stepsOf, hashesFit, checkOf, replayTests}
 
 module _ (n sync : ℕ) (es : List Entry) (all : AllWellFormed es) (small : sync < 2 ^ 32) (inside : allInside n es ≡ true) where
   -- the check of its whole log
   pub check-accepts : (hashes : ℕ) → hashes ≡ updatesIn es → checkAnswer n (logOf sync es) hashes ≡ given tt
   unfolding checkAnswer
   check-accepts hashes e =
-      ap (λ (r : Reading). cond (allInside n (r .entries)) (afterEntries (r .stop) (cond (eqb hashes (updatesIn (r .entries))) (given tt) (refused 2))) (refused 9)) (entries-back sync es all)
-      ∙ ap (λ (t : Bool). cond t (cond (eqb hashes (updatesIn es)) (given tt) (refused 2)) (refused 9)) inside
+      ap (checkOf n hashes) (entries-back sync es all)
+      ∙ ap (λ (t : Bool). cond t (hashesFit hashes (updatesIn es)) (refused 9)) inside
       ∙ ap (λ (t : Bool). cond t (given tt) (refused 2)) (eq-eqb hashes (updatesIn es) e)
 
   not-empty : length (logOf sync es) ≡ 0 → ⊥
@@ -33,7 +33,7 @@ module _ (n sync : ℕ) (es : List Entry) (all : AllWellFormed es) (small : sync
 
   -- 5. acceptance, for the log of any such entries
   pub replay-accepts : (table hashes : List ℕ) → imageFits n (length table) ≡ true → length hashes ≡ updatesIn es → replayAnswer n table (logOf sync es) sync hashes ≡ given applied
-  unfolding replayAnswer
+  unfolding replayTests
   replay-accepts table hashes fits e =
       let log : List ℕ = logOf sync es in
       ap (λ (t : Bool). cond t (cond (eqb (length log) 0) (given nothing) (afterStart (startOf log) sync (checkAnswer n log (length hashes)))) (refused 1)) fits
@@ -56,7 +56,7 @@ finished-accepted log₀ sync w log es run n table hashes inside fits e =
 
 -- the answer looks at the image's length alone, so it is the same for a table and for what stops leave of it
 pub answer-by-length : (n : ℕ) (a b log : List ℕ) (sync : ℕ) (hashes : List ℕ) → length a ≡ length b → replayAnswer n a log sync hashes ≡ replayAnswer n b log sync hashes
-unfolding replayAnswer
+unfolding replayTests
 answer-by-length n a b log sync hashes e =
     ap (λ (l : ℕ). cond (imageFits n l) (cond (eqb (length log) 0) (given nothing) (afterStart (startOf log) sync (checkAnswer n log (length hashes)))) (refused 1)) e
 

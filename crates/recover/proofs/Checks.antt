@@ -22,7 +22,8 @@ use Rattle.wal_read.specs.declared.Head.{Head}
 use Rattle.wal_read.specs.declared.Head.the-variants as head
 use Rattle.wal_read.proofs.Head as HeadT
 use Rattle.wal_read.proofs.ReadLaws.{There, head-end, head-stop, read-entry, read-end, read-stop}
-use Rattle.recover.specs.Replay.{bucketOf, allInside, oneUpdate, updatesIn, afterEntries, checkAnswer, checkStop, updated, wentTo}
+use Rattle.recover.specs.Replay.{bucketOf, allInside, oneUpdate, updatesIn, afterEntries, checkAnswer, updated, wentTo, hashesFit}
+use Rattle.recover.specs.InnerStops.{checkStop}
 
 -- at the head of the loop: so many updates are read, and the entries before `at` are inside the table
 pub record CheckState (n : ℕ) (log : List ℕ) (at updates : ℕ) : Type 0 where
@@ -55,16 +56,16 @@ module _ (n : ℕ) (log : List ℕ) (at updates : ℕ) (st : CheckState n log at
   pub check-outside : (hashes : ℕ) (e : Entry) (p : ℕ) → nextAt log at ≡ next e p → n ≤ bucketOf e → checkAnswer n log hashes ≡ refused 9
   unfolding checkAnswer allInside
   check-outside hashes e p h l =
-      ap (λ (t : Bool). cond t (afterEntries (readLog log .stop) (cond (eqb hashes (updatesIn (readLog log .entries))) (given tt) (refused 2))) (refused 9))
+      ap (λ (t : Bool). cond t (afterEntries (readLog log .stop) (hashesFit hashes (updatesIn (readLog log .entries)))) (refused 9))
       (st .inside ∙ ap (λ (x : Reading). allInside n (x .entries)) (read-entry log at e p h) ∙ ap (λ (t : Bool). t && allInside n (readFrom log p .entries)) (le-ltb (bucketOf e) n l))
 
   -- where the reading stops
-  at-stop : (hashes : ℕ) (a : Answer (Unit {0})) → readFrom log at ≡ stopAt at a → checkAnswer n log hashes ≡ afterEntries a (cond (eqb hashes updates) (given tt) (refused 2))
+  at-stop : (hashes : ℕ) (a : Answer (Unit {0})) → readFrom log at ≡ stopAt at a → checkAnswer n log hashes ≡ afterEntries a (hashesFit hashes updates)
   unfolding checkAnswer allInside updatesIn
   at-stop hashes a r =
       let z : updates + 0 ≡ updates = omega arith in
-      ap (λ (t : Bool). cond t (afterEntries (readLog log .stop) (cond (eqb hashes (updatesIn (readLog log .entries))) (given tt) (refused 2))) (refused 9)) (st .inside ∙ ap (λ (x : Reading). allInside n (x .entries)) r)
-      ∙ ap₂ (λ (s : Answer (Unit {0})) (u : ℕ). afterEntries s (cond (eqb hashes u) (given tt) (refused 2))) (st .stop ∙ ap (λ (x : Reading). x .stop) r) (st .count ∙ ap (λ (x : Reading). updates + updatesIn (x .entries)) r ∙ z)
+      ap (λ (t : Bool). cond t (afterEntries (readLog log .stop) (hashesFit hashes (updatesIn (readLog log .entries)))) (refused 9)) (st .inside ∙ ap (λ (x : Reading). allInside n (x .entries)) r)
+      ∙ ap₂ (λ (s : Answer (Unit {0})) (u : ℕ). afterEntries s (hashesFit hashes u)) (st .stop ∙ ap (λ (x : Reading). x .stop) r) (st .count ∙ ap (λ (x : Reading). updates + updatesIn (x .entries)) r ∙ z)
 
   pub check-stop : (hashes : ℕ) (h : Head) → headSaid h ≡ headOf (nextAt log at) → OneOf (1 ∷ 2 ∷ 3 ∷ []) (tagOf HeadT.the-type h) → OneOf (0 ∷ 2 ∷ 3 ∷ []) (tagOf HeadT.the-type h)
       → checkAnswer n log hashes ≡ checkStop (headSaid h) updates hashes
@@ -80,21 +81,21 @@ module _ (n : ℕ) (log : List ℕ) (at updates : ℕ) (st : CheckState n log at
   check-stop hashes (head.Refused r) e o q = at-stop hashes (refused (numberOf r)) (read-stop log at (numberOf r) (head-stop (nextAt log at) (numberOf r) e))
 
 -- the update that a head stands for, and its bucket
-pub there-bucket : (log : List ℕ) (at b c p : ℕ) → There log at b c p → bucketOf (updateOf log at) ≡ b
+pub there-bucket : (log : List ℕ) (at b c p : ℕ) → There log at b c p → bucketOf (updateOf log (at + 1)) ≡ b
 unfolding updateOf
-there-bucket log at b c p t = ap (λ (k : ℕ). le (block 8 log (at + 57 + 32 * k))) (sym (t .count)) ∙ sym (t .bucket)
+there-bucket log at b c p t = ap (λ (k : ℕ). le (block 8 log (at + 1 + 56 + 32 * k))) (sym (t .count)) ∙ sym (t .bucket)
 
-pub there-one : (log : List ℕ) (at : ℕ) → oneUpdate (updateOf log at) ≡ 1
+pub there-one : (log : List ℕ) (at : ℕ) → oneUpdate (updateOf log (at + 1)) ≡ 1
 unfolding updateOf
 there-one log at = refl
 
 -- the update by its parts, with the head's bucket and count
-pub there-entry : (log : List ℕ) (at b c p : ℕ) → There log at b c p → updateOf log at ≡ update (block 32 log (at + 1)) (diffAt log at) (nodesFrom log (at + 49) c) (block 8 log (at + 49 + 32 * c)) b
+pub there-entry : (log : List ℕ) (at b c p : ℕ) → There log at b c p → updateOf log (at + 1) ≡ update (block 32 log (at + 1)) (diffAt log (at + 1)) (nodesFrom log (at + 1 + 48) c) (block 8 log (at + 1 + 48 + 32 * c)) b
 unfolding updateOf
 there-entry log at b c p t =
-    ap (λ (k : ℕ). update (block 32 log (at + 1)) (diffAt log at) (nodesFrom log (at + 49) k) (block 8 log (at + 49 + 32 * k)) (le (block 8 log (at + 57 + 32 * k)))) (sym (t .count))
-    ∙ ap (update (block 32 log (at + 1)) (diffAt log at) (nodesFrom log (at + 49) c) (block 8 log (at + 49 + 32 * c))) (sym (t .bucket))
+    ap (λ (k : ℕ). update (block 32 log (at + 1)) (diffAt log (at + 1)) (nodesFrom log (at + 1 + 48) k) (block 8 log (at + 1 + 48 + 32 * k)) (le (block 8 log (at + 1 + 56 + 32 * k)))) (sym (t .count))
+    ∙ ap (update (block 32 log (at + 1)) (diffAt log (at + 1)) (nodesFrom log (at + 1 + 48) c) (block 8 log (at + 1 + 48 + 32 * c))) (sym (t .bucket))
 
-pub updated-there : (log : List ℕ) (at p : ℕ) → updated p ≡ wentTo (updateOf log at) p
+pub updated-there : (log : List ℕ) (at p : ℕ) → updated p ≡ wentTo (updateOf log (at + 1)) p
 unfolding updateOf
 updated-there log at p = refl

@@ -30,11 +30,11 @@ module _ (n : ℕ) (table log : List ℕ) (sync : ℕ) (hashes : List ℕ) (ok :
 
   -- the image stays as long as the table
   still-fits : (w : Stand) {k : ℕ} → RunState n log hashes table (w .image) (w .at) (w .used) k → imageFits n (length (w .image)) ≡ true
-  still-fits w st = ap (imageFits n) (run-long n log hashes table (w .image) (w .at) (w .used) st) ∙ applied-told n table log sync hashes ok .0
+  still-fits w st = ap (imageFits n) (run-long n log hashes table (w .image) (w .at) (w .used) st) ∙ applied-told n (length table) log sync (length hashes) ok .0
 
   calls-stand : (k : ℕ) → RunState n log hashes table (at-call k .image) (at-call k .at) (at-call k .used) k
   unfolding calls
-  calls-stand zero = run-start n log hashes table (applied-told n table log sync hashes ok .1)
+  calls-stand zero = run-start n log hashes table (applied-told n (length table) log sync (length hashes) ok .1)
   calls-stand (suc k) =
       let w = at-call k in
       let st = calls-stand k in

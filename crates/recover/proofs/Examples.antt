@@ -12,18 +12,18 @@ use lib.ListN.{length, getD, take, replicate, length-replicate, getD-replicate}
 use borrow.Author.Tests.{ltb-true}
 use Rattle.answers.specs.Answers.{Answer, given, refused}
 use Rattle.answers.specs.declared.Refusal.the-variants.{LogCut, BucketOutside}
-use Rattle.blocks.specs.Blocks.{block}
+use Rattle.blocks.specs.Blocks.{block, flat}
 use Rattle.ht_file.specs.Places.{imageFits}
 use Rattle.ht_file.proofs.Laws.{both-hold}
 use Rattle.page_diff.specs.Diff.{digit, marked, slotsBelow}
-use Rattle.wal.specs.Log.{Entry, clear, update, flat, recordOf, recordsOf}
-use Rattle.wal.specs.Reader.{Reading, startOf, nextAt, readIn}
+use Rattle.wal.specs.Log.{Entry, clear, update, recordOf, recordsOf}
+use Rattle.wal.specs.Reader.{Reading, startOf, nextAt, readIn, readBy}
 use Rattle.wal.specs.Run.{logOf}
 use Rattle.wal.proofs.RoundTrip.{AllWellFormed, none, more, log-length, start-back, entries-back}
 use Rattle.recover.specs.Places.{Step, withHashes, names, gives, replayed, valueAt, namedIn, entryNames, entryGives}
 use Rattle.recover.specs.Replay.{Did, nothing, stale, applied, allInside, updatesIn, checkAnswer, replayAnswer, replayImage, stepsOf, Went, cleared, updated, atEnd, stepAnswer, stepImage, steppedSaid, recoveredSaid, OnlyNamed}
 use Rattle.recover.specs.Calls.{calls, Cut, uncut, cut-inside}
-use Rattle.recover.proofs.Acceptance.{replay-accepts, replay-applies}
+use Rattle.recover.proofs.Acceptance.{replay-accepts, replay-applies, stale-leaves}
 use Rattle.recover.proofs.Cuts.{calls-make, cut-stopped}
 use Rattle.recover.proofs.Demand3.{replayed-at, stepped-at, stopped-only}
 use Rattle.recover.proofs.OneImage.{applied-image, demand-3}
@@ -57,7 +57,7 @@ pub answers : (replayAnswer 0 [] [] 7 [] ∷ replayAnswer 1 (replicate 8191 0) [
     ∷ (replay (page (aClear 0)) 7 (0 ∷ []) ∷ replay (page anUpdate) 7 [] ∷ replay (page anUpdate) 7 (0 ∷ []) ∷ replay (page (aClear 0)) 7 [] ∷ replay (page (2 ∷ [])) 7 [] ∷ []) ∷ []
     ≡ (refused 1 ∷ refused 1 ∷ given nothing ∷ refused 5 ∷ refused 7 ∷ given stale ∷ []) ∷ (refused 8 ∷ refused 4 ∷ refused 6 ∷ refused 9 ∷ [])
     ∷ (refused 2 ∷ refused 2 ∷ given applied ∷ given applied ∷ given applied ∷ []) ∷ []
-unfolding replayAnswer startOf checkAnswer allInside updatesIn readIn nextAt block marked slotsBelow
+unfolding replayAnswer startOf checkAnswer allInside updatesIn readBy nextAt block marked slotsBelow
 answers = refl
 
 -- the step: 1, 6, 8, 4, 9; a clear, an update and the end
@@ -110,8 +110,8 @@ module _ (table : List ℕ) (long : length table ≡ 8192) (empty : getD table 0
 
   under-8 : clearedUnder table 8 ≡ (given stale, 0)
   under-8 =
-      let said = replay-stale 1 table (logOf 7 entries) 8 [] fits (λ z. omega (arith, log-length 7 entries)) 7 (start-back 7 entries (omega arith)) (λ z. omega arith) in
-      ap₂ (λ (a : Answer Did) (v : ℕ). (a, v)) (sym (said .0)) (ap (λ (l : List ℕ). getD l 0 0) (sym (said .1)) ∙ empty)
+      let said : given stale ≡ replayAnswer 1 table (logOf 7 entries) 8 [] = replay-stale 1 (length table) (logOf 7 entries) 8 0 fits (λ z. omega (arith, log-length 7 entries)) 7 (start-back 7 entries (omega arith)) (λ z. omega arith) in
+      ap₂ (λ (a : Answer Did) (v : ℕ). (a, v)) (sym said) (ap (λ (l : List ℕ). getD l 0 0) (stale-leaves 1 table (logOf 7 entries) 8 [] (sym said)) ∙ empty)
 
   both : map (clearedUnder table) (7 ∷ 8 ∷ []) ≡ (given applied, 0x7F) ∷ (given stale, 0) ∷ []
   both = ap₂ (λ (a b : Answer Did × ℕ). a ∷ b ∷ []) under-7 under-8

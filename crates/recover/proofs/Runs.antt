@@ -21,7 +21,7 @@ use Rattle.wal.specs.Log.{Entry, clear, update, startSize}
 use Rattle.wal.specs.Reader.{Next, next, ended, stopped, nextAt, Reading, readFrom, readLog}
 use Rattle.wal_read.proofs.ReadLaws.{Moved, moves, read-entry, read-end, read-stop}
 use Rattle.recover.specs.Places.{Step, withHashes, entryGives, names, gives, replayed, stepped}
-use Rattle.recover.specs.Replay.{bucketOf, allInside, oneUpdate, updatesIn, afterEntries, checkAnswer, stepsOf, Went, cleared, updated, atEnd, wentTo, stepAnswer, stepImage, steppedSaid}
+use Rattle.recover.specs.Replay.{bucketOf, allInside, oneUpdate, updatesIn, afterEntries, checkAnswer, stepsOf, Went, cleared, updated, atEnd, wentTo, stepAnswer, stepImage, steppedSaid, hashesFit, checkOf}
 use Rattle.recover.specs.Calls.{Stand, movedBy, called}
 use Rattle.recover.specs.declared.Stepped.{Stepped}
 use Rattle.recover.specs.declared.Stepped.the-variants as S
@@ -47,14 +47,14 @@ unfolding checkAnswer
 checked n log hashes ok = go (allInside n (readLog log .entries)) refl (readLog log .stop) refl ok
   where
     go : (b : Bool) → allInside n (readLog log .entries) ≡ b → (a : Answer (Unit {0})) → readLog log .stop ≡ a
-        → cond (allInside n (readLog log .entries)) (afterEntries (readLog log .stop) (cond (eqb hashes (updatesIn (readLog log .entries))) (given tt) (refused 2))) (refused 9) ≡ given tt
+        → checkOf n hashes (readLog log) ≡ given tt
         → (allInside n (readLog log .entries) ≡ true) × (readLog log .stop ≡ given tt)
     go true p (given tt) q e = (p, q)
     go true p (refused k) q e =
-        let z : refused k ≡ given tt = sym (ap₂ (λ (b : Bool) (a : Answer (Unit {0})). cond b (afterEntries a (cond (eqb hashes (updatesIn (readLog log .entries))) (given tt) (refused 2))) (refused 9)) p q) ∙ e in
+        let z : refused k ≡ given tt = sym (ap₂ (λ (b : Bool) (a : Answer (Unit {0})). cond b (afterEntries a (hashesFit hashes (updatesIn (readLog log .entries)))) (refused 9)) p q) ∙ e in
         let y : _≡_ {A = ℕ} 0 1 = cc in absurd (omega arith)
     go false p a q e =
-        let z : refused 9 ≡ given tt = sym (ap (λ (b : Bool). cond b (afterEntries (readLog log .stop) (cond (eqb hashes (updatesIn (readLog log .entries))) (given tt) (refused 2))) (refused 9)) p) ∙ e in
+        let z : refused 9 ≡ given tt = sym (ap (λ (b : Bool). cond b (afterEntries (readLog log .stop) (hashesFit hashes (updatesIn (readLog log .entries)))) (refused 9)) p) ∙ e in
         let y : _≡_ {A = ℕ} 0 1 = cc in absurd (omega arith)
 
 pub run-start : (n : ℕ) (log hashes table : List ℕ) → checkAnswer n log (length hashes) ≡ given tt → RunState n log hashes table table startSize 0 0

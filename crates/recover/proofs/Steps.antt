@@ -29,7 +29,8 @@ use Rattle.wal_read.specs.declared.Head.the-variants as head
 use Rattle.wal_read.proofs.Head as HeadT
 use Rattle.wal_read.proofs.ReadLaws.{head-end, head-stop}
 use Rattle.recover.specs.Places.{Step, entryNames, entryGives, names, gives, inPage, pageNamed, pageGives, pageAfter, stepped}
-use Rattle.recover.specs.Replay.{bucketOf, Went, cleared, updated, atEnd, wentTo, byNext, stepAnswer, stepBy, stepImage, stepStop}
+use Rattle.recover.specs.Replay.{bucketOf, Went, cleared, updated, atEnd, wentTo, byNext, stepAnswer, stepBy, stepImage}
+use Rattle.recover.specs.InnerStops.{stepStop}
 
 -- ---- the answer, test by test
 module _ (n : ℕ) (image log : List ℕ) (at h : ℕ) where

@@ -1,3 +1,5 @@
 pub mod Places
 pub mod Replay
 pub mod Calls
+pub mod InnerStops
+pub mod InnerPage

@@ -11,7 +11,6 @@ use Rattle.answers.specs.Refusals.{numberOf}
 use Rattle.ht_file.specs.Places.{imageFits}
 use Rattle.wal.specs.Log.{Entry, clear, update}
 use Rattle.wal.specs.Reader.{startOf, Next, next, ended, stopped, nextAt, Reading, readLog}
-use Rattle.wal_read.specs.Head.{Seen, aClear, anUpdate, theEnd, aRefusal}
 use Rattle.recover.specs.Places.{Step, withHashes, replayed, stepped, names, gives, namedIn}
 use Rattle.recover.specs.declared.Stepped.{Stepped}
 use Rattle.recover.specs.declared.Recovered.{Recovered}
@@ -44,12 +43,15 @@ abbrev pub afterEntries : Answer (Unit {0}) → Answer (Unit {0}) → Answer (Un
 afterEntries (given u) last = last
 afterEntries (refused n) last = refused n
 
--- the check of a whole log for a table of n buckets, with so many hashes
+abbrev pub hashesFit : ℕ → ℕ → Answer (Unit {0})
+hashesFit hashes updates = cond (eqb hashes updates) (given tt) (refused 2)
+
+-- what a whole log that reads so comes to, for a table of n buckets, with so many hashes
+abbrev pub checkOf : ℕ → ℕ → Reading → Answer (Unit {0})
+checkOf n hashes r = cond (allInside n (r .entries)) (afterEntries (r .stop) (hashesFit hashes (updatesIn (r .entries)))) (refused 9)
+
 unfoldable pub checkAnswer : ℕ → List ℕ → ℕ → Answer (Unit {0})
-checkAnswer n log hashes =
-    cond (allInside n (readLog log .entries))
-    (afterEntries (readLog log .stop) (cond (eqb hashes (updatesIn (readLog log .entries))) (given tt) (refused 2)))
-    (refused 9)
+checkAnswer n log hashes = checkOf n hashes (readLog log)
 
 -- "another sync number answers stale, later entries unread"
 abbrev pub afterStart : Answer ℕ → ℕ → Answer (Unit {0}) → Answer Did
@@ -57,12 +59,14 @@ afterStart (refused n) sync check = refused n
 afterStart (given s) sync (given u) = cond (eqb s sync) (given applied) (given stale)
 afterStart (given s) sync (refused n) = cond (eqb s sync) (refused n) (given stale)
 
--- "Replay: 1, nothing, 5, 7, stale, then the first bad entry .., last the hash count 2"
-unfoldable pub replayAnswer : ℕ → List ℕ → List ℕ → ℕ → List ℕ → Answer Did
-replayAnswer n image log sync hashes =
-    cond (imageFits n (length image))
-    (cond (eqb (length log) 0) (given nothing) (afterStart (startOf log) sync (checkAnswer n log (length hashes))))
+-- "Replay: 1, nothing, 5, 7, stale, then the first bad entry .., last the hash count 2": of the lengths of the image and of the hashes
+unfoldable pub replayTests : ℕ → ℕ → List ℕ → ℕ → ℕ → Answer Did
+replayTests n image log sync hashes =
+    cond (imageFits n image) (cond (eqb (length log) 0) (given nothing) (afterStart (startOf log) sync (checkAnswer n log hashes)))
     (refused 1)
+
+abbrev pub replayAnswer : ℕ → List ℕ → List ℕ → ℕ → List ℕ → Answer Did
+replayAnswer n image log sync hashes = replayTests n (length image) log sync (length hashes)
 
 -- the entries of a log with their hashes
 abbrev pub stepsOf : List ℕ → List ℕ → List Step
@@ -104,19 +108,6 @@ stepBy n (stopped k) h image = image
 -- the image after it: a refusal leaves it
 unfoldable pub stepImage : ℕ → List ℕ → List ℕ → ℕ → ℕ → List ℕ
 stepImage n image log at h = cond (accepted (stepAnswer n image log at)) (stepBy n (nextAt log at) h image) image
-
--- where the reading stops, seen without a record's fields
-abbrev pub checkStop : Seen → ℕ → ℕ → Answer (Unit {0})
-checkStop (aClear b p) updates hashes = cond (eqb hashes updates) (given tt) (refused 2)
-checkStop (anUpdate b c p) updates hashes = cond (eqb hashes updates) (given tt) (refused 2)
-checkStop theEnd updates hashes = cond (eqb hashes updates) (given tt) (refused 2)
-checkStop (aRefusal k) updates hashes = refused k
-
-abbrev pub stepStop : Seen → Answer Went
-stepStop (aClear b p) = given atEnd
-stepStop (anUpdate b c p) = given atEnd
-stepStop theEnd = given atEnd
-stepStop (aRefusal k) = refused k
 
 -- what each case of the code's answers says
 abbrev pub steppedSaid : Stepped → Answer Went

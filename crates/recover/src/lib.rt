@@ -8,15 +8,17 @@ ghost use mathlib.Core.List.{[], _∷_, _++_};
 ghost use Prim.Native.Nat.{_+_, _*_, _≤_};
 ghost use lib.ListN.{length, getD};
 ghost use Rattle.answers.specs.Answers.{given, outcomeSaid};
-ghost use Rattle.blocks.specs.Blocks.{block, tabulate};
+ghost use Rattle.blocks.specs.Blocks.{tabulate};
 ghost use Rattle.ht_file.specs.Places.{imageFits};
 ghost use Rattle.page_diff.specs.Diff.{reserved, countOf};
 ghost use Rattle.page_diff.specs.Pack.{unpackedByte};
-ghost use Rattle.wal.specs.Log.{updateSize};
+ghost use Rattle.wal.specs.Log.{updateBody};
 ghost use Rattle.wal.specs.Reader.{diffAt, nodesFrom};
 ghost use Rattle.wal_read.specs.Head.{headSaid};
-ghost use Rattle.recover.specs.Places.{replayed, pageAfter};
-ghost use Rattle.recover.specs.Replay.{checkAnswer, checkStop, stepStop, stepAnswer, stepImage, replayAnswer, replayImage, stepsOf, steppedSaid, recoveredSaid};
+ghost use Rattle.recover.specs.Places.{replayed};
+ghost use Rattle.recover.specs.Replay.{checkAnswer, stepAnswer, stepImage, replayTests, replayAnswer, replayImage, stepsOf, steppedSaid, recoveredSaid};
+ghost use Rattle.recover.specs.InnerStops.{checkStop, stepStop};
+ghost use Rattle.recover.specs.InnerPage.{pageBy};
 use answers::Number;
 use answers::Outcome;
 use answers::Refusal;
@@ -120,7 +122,7 @@ fn write_slots(page: &mut [u8], d: Diff, log: &[u8], from: usize)
     loop {
         let next = page_diff::next_slot(left);
         let s = next.slot;
-        if 126 <= s {
+        if page_diff::NODES_PER_PAGE <= s {
             return;
         }
         let node = blocks::block_32(log, from + 32 * c);
@@ -132,17 +134,21 @@ fn write_slots(page: &mut [u8], d: Diff, log: &[u8], from: usize)
     }
 }
 
-// The update at `at` on its page: the marked slots, then the last 40 bytes; the rest stays.
-fn apply_page(page: &mut [u8], log: &[u8], at: usize, count: usize)
-    requires { ⌜ (length (now page) ≡ 4096) × (reserved (diffAt (now log) at) ≡ false) × (count ≡ countOf (diffAt (now log) at)) × (at + updateSize count ≤ length (now log)) ⌝ }
-    ensures { λ _. ⌜ now (page .exit) ≡ pageAfter (block 32 (now (log .entry)) (at + 1)) (diffAt (now (log .entry)) at) (nodesFrom (now (log .entry)) (at + 49) count) (block 8 (now (log .entry)) (at + 49 + 32 * count)) (now (page .entry)) ⌝ }
+// The update whose body is at `body` on its page: the marked slots, then the last 40 bytes; the rest stays.
+fn apply_page(page: &mut [u8], log: &[u8], body: usize, count: usize)
+    requires { ⌜ (length (now page) ≡ 4096) × (reserved (diffAt (now log) body) ≡ false) × (count ≡ countOf (diffAt (now log) body)) × (body + updateBody count ≤ length (now log)) ⌝ }
+    ensures { λ _. ⌜ now (page .exit) ≡ pageBy (now (log .entry)) body count (now (page .entry)) ⌝ }
 {
-    let read = page_diff::from_bytes(blocks::block_16(log, at + 33));
+    let read = page_diff::from_bytes(blocks::block_16(log, body + wal::DIFF_AT));
     let d = read.diff;
-    write_slots(page, d, log, at + 49);
-    let elided = blocks::block_8(log, at + 49 + 32 * count);
-    let id = blocks::block_32(log, at + 1);
-    write_label(&mut page[4056..4096], elided, id);
+    write_slots(page, d, log, body + wal::NODES_AT);
+    let elided = blocks::block_8(log, body + wal::NODES_AT + 32 * count);
+    let id = blocks::block_32(log, body);
+    write_label(
+        &mut page[page_diff::ELIDED_AT..page_diff::PAGE_SIZE],
+        elided,
+        id,
+    );
 }
 
 // Applies the entry at a position of the log to the image: a clear writes its bucket's tag, an update its
@@ -175,7 +181,8 @@ pub fn apply_entry(image: &mut [u8], n: usize, log: &[u8], at: usize, hash: u64)
         write_tag(&mut image[b..b + 1], meta_map::full_entry(hash));
         let a = PAGE_SIZE * ((n + 4095) / PAGE_SIZE + b);
         let e = a + PAGE_SIZE;
-        apply_page(&mut image[a..e], log, at, count);
+        let body = at + wal::MARK_SIZE;
+        apply_page(&mut image[a..e], log, body, count);
         return Stepped::Updated(next);
     }
     Stepped::Refused(Refusal::TableUnfit)
@@ -223,12 +230,12 @@ fn hash_at(hashes: &[u64], i: usize) -> u64
     0
 }
 
-// Replay: applies a log to the image of a table of n buckets, where the log is of the expected sync and
-// can be applied whole; otherwise the image stays as it is.
-pub fn recover(image: &mut [u8], n: usize, log: &[u8], sync: u32, hashes: &[u64]) -> Recovered
-    ensures { λ r. ⌜ (recoveredSaid r ≡ replayAnswer n (now (image .entry)) (now (log .entry)) sync (now (hashes .entry))) × (now (image .exit) ≡ replayImage n (now (image .entry)) (now (log .entry)) sync (now (hashes .entry))) ⌝ }
+// What replay answers, told before a byte is written: 1, nothing, 5, 7, stale, the first bad entry, the hash
+// count. It looks at the lengths of the image and of the hashes alone.
+pub fn check_replay(image_len: usize, n: usize, log: &[u8], sync: u32, hashes: usize) -> Recovered
+    ensures { λ r. ⌜ recoveredSaid r ≡ replayTests n «image_len» (now (log .entry)) sync hashes ⌝ }
 {
-    if ht_file::image_fits(n, image.len()) {
+    if ht_file::image_fits(n, image_len) {
         if log.len() == 0 {
             return Recovered::Nothing;
         }
@@ -242,12 +249,24 @@ pub fn recover(image: &mut [u8], n: usize, log: &[u8], sync: u32, hashes: &[u64]
         if found != sync as u64 {
             return Recovered::Stale;
         }
-        let checked = check_log(log, n, hashes.len());
+        let checked = check_log(log, n, hashes);
         if let Outcome::Refused(why) = checked {
             return Recovered::Refused(why);
         }
-        run(image, n, log, hashes);
         return Recovered::Applied;
     }
     Recovered::Refused(Refusal::TableUnfit)
+}
+
+// Replay: applies a log to the image of a table of n buckets, where the log is of the expected sync and
+// can be applied whole; otherwise the image stays as it is.
+pub fn recover(image: &mut [u8], n: usize, log: &[u8], sync: u32, hashes: &[u64]) -> Recovered
+    ensures { λ r. ⌜ (recoveredSaid r ≡ replayAnswer n (now (image .entry)) (now (log .entry)) sync (now (hashes .entry))) × (now (image .exit) ≡ replayImage n (now (image .entry)) (now (log .entry)) sync (now (hashes .entry))) ⌝ }
+{
+    let answer = check_replay(image.len(), n, log, sync, hashes.len());
+    let Recovered::Applied = answer else {
+        return answer;
+    };
+    run(image, n, log, hashes);
+    answer
 }

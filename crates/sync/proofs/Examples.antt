@@ -7,12 +7,12 @@ use native.Mathlib.Omega.{arith}
 use lib.ListN.{replicate}
 use Rattle.answers.specs.Answers.{Answer, given, refused}
 use Rattle.answers.specs.declared.Refusal.the-variants.{LengthUnfit, BucketOutside, BucketUnfit, NoRoom}
-use Rattle.blocks.specs.Blocks.{block, put}
+use Rattle.blocks.specs.Blocks.{block, put, flat}
 use Rattle.meta_map.specs.Tags.{countOf}
 use Rattle.page_diff.specs.Diff.{marked, slotsBelow}
 use Rattle.probe.specs.Path.{allocating}
-use Rattle.wal.specs.Log.{Entry, clear, update, flat, recordOf, recordsOf}
-use Rattle.wal.specs.Reader.{startOf, next, nextAt, readIn}
+use Rattle.wal.specs.Log.{Entry, clear, update, recordOf, recordsOf}
+use Rattle.wal.specs.Reader.{startOf, next, nextAt, readIn, readBy}
 use Rattle.wal.specs.Run.{logOf}
 use Rattle.wal.specs.Writer.{beginAnswer, finishAnswer}
 use Rattle.wal.specs.declared.Writer.the-variants.{Fresh, Open, Finished}
@@ -178,11 +178,11 @@ abbrev labelLog : List ℕ
 labelLog = logOf 7 (clear 0 ∷ update0 ∷ [])
 
 accepted : replayAnswer 1 (replicate 8192 0) labelLog 7 (0 ∷ []) ≡ given applied
-unfolding replayAnswer startOf checkAnswer allInside updatesIn readIn nextAt block marked slotsBelow recordsOf recordOf flat
+unfolding replayAnswer startOf checkAnswer allInside updatesIn readBy nextAt block marked slotsBelow recordsOf recordOf flat
 accepted = refl
 
 its-steps : stepsOf labelLog (0 ∷ []) ≡ record { entry = clear 0; hash = 0 } ∷ record { entry = update0; hash = 0 } ∷ []
-unfolding withHashes readIn nextAt block marked slotsBelow recordsOf recordOf flat
+unfolding withHashes readBy nextAt block marked slotsBelow recordsOf recordOf flat
 its-steps = refl
 
 its-second : nextAt labelLog 14 ≡ next update0 111

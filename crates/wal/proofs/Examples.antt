@@ -5,10 +5,10 @@ use mathlib.Core.List.{List, [], _∷_, _++_, map}
 use Prim.Native.Nat.{ℕ, _^_}
 use lib.ListN.{length, take, replicate}
 use Rattle.answers.specs.Answers.{given, refused}
-use Rattle.blocks.specs.Blocks.{block, put}
+use Rattle.blocks.specs.Blocks.{block, put, flat}
 use Rattle.page_diff.specs.Diff.{marked, slotsBelow}
-use Rattle.wal.specs.Log.{Entry, clear, update, markSize, startRecord, startSize, flat, recordOf, clearSize, updateSize, recordsOf, finishedLength, endRecord}
-use Rattle.wal.specs.Reader.{startOf, next, ended, stopped, nextAt, Reading, readIn, readLog}
+use Rattle.wal.specs.Log.{Entry, clear, update, markSize, startRecord, startSize, recordOf, clearSize, updateSize, recordsOf, finishedLength, endRecord}
+use Rattle.wal.specs.Reader.{startOf, next, ended, stopped, nextAt, Reading, readIn, readBy, readLog}
 use Rattle.wal.specs.Writer.{beginAnswer, beginLog, beginWriter, clearAnswer, updateAnswer, recordLog, recordWriter, finishAnswer, finishLog, finishWriter}
 use Rattle.wal.specs.Run.{logOf}
 use Rattle.wal.specs.declared.Writer.the-variants.{Fresh, Open, Finished}
@@ -65,7 +65,7 @@ abbrev reading : Reading
 reading = record { entries = clear 3 ∷ entry ∷ []; at = 143; stop = given tt }
 
 pub read : readLog log ≡ reading
-unfolding readIn nextAt block marked slotsBelow
+unfolding readBy nextAt block marked slotsBelow
 read = refl
 
 -- a slice of so many bytes

@@ -9,10 +9,10 @@ use lib.Dec.{leb, eqb}
 use lib.ListN.{length, getD, take, drop, length-append}
 use lib.Seq.{take-at, drop-at, getD-at}
 use borrow.Author.Tests.{le-leb}
-use Rattle.blocks.specs.Blocks.{le, bytesOf, block}
+use Rattle.blocks.specs.Blocks.{le, bytesOf, block, flat}
 use Rattle.blocks.proofs.Laws.{block-at, bytes-length, le-bytesOf}
 use Rattle.page_diff.specs.Diff.{wordsOf, bytesOfWords, countOf, reserved}
-use Rattle.wal.specs.Log.{Entry, clear, update, mark, flat, recordOf, clearSize, updateSize}
+use Rattle.wal.specs.Log.{Entry, clear, update, mark, recordOf, updateBody, clearSize, updateSize}
 use Rattle.wal.specs.Reader.{Next, next, ended, stopped, clearAt, nodesFrom, diffAt, updateOf, updateAt, byTag, nextAt}
 use Rattle.wal.specs.Run.{Rows, Handed, WellFormed}
 
@@ -104,10 +104,12 @@ module _ (pre post : List ℕ) (b : ℕ) (small : b < 2 ^ 64) where
   pub next-clear : nextAt withClear (length pre) ≡ next (clear b) (length pre + clearSize)
   unfolding nextAt clearAt
   next-clear =
-      ap (λ (t : Bool). cond t (byTag (getD withClear (length pre) 0) withClear (length pre)) (stopped 6)) (le-leb (length pre + 1) (length withClear) (omega (arith, clear-log-length)))
-      ∙ ap (λ (t : ℕ). byTag t withClear (length pre)) clear-tag
-      ∙ ap (λ (t : Bool). cond t (next (clear (le (block 8 withClear (length pre + 1)))) (length pre + clearSize)) (stopped 6)) (le-leb (length pre + clearSize) (length withClear) (omega (arith, clear-log-length)))
-      ∙ ap (λ (n : ℕ). next (clear n) (length pre + clearSize)) clear-bucket
+      let p : ℕ = length pre + 1 in
+      let after : p + 8 ≡ length pre + clearSize = omega arith in
+      ap (λ (t : Bool). cond t (byTag (getD withClear (length pre) 0) withClear p) (stopped 6)) (le-leb (length pre + 1) (length withClear) (omega (arith, clear-log-length)))
+      ∙ ap (λ (t : ℕ). byTag t withClear p) clear-tag
+      ∙ ap (λ (t : Bool). cond t (next (clear (le (block 8 withClear p))) (p + 8)) (stopped 6)) (le-leb (p + 8) (length withClear) (omega (arith, clear-log-length)))
+      ∙ ap₂ (λ (n q : ℕ). next (clear n) q) clear-bucket after
 
 -- ---- an update
 module _ (pre post id ws : List ℕ) (ns : List (List ℕ)) (el : List ℕ) (b : ℕ) (h : Handed id ws ns el b) where
@@ -127,16 +129,16 @@ module _ (pre post id ws : List ℕ) (ns : List (List ℕ)) (el : List ℕ) (b :
   head-1 : length (pre ++ mark 4) ≡ length pre + 1
   head-1 = length-append pre (mark 4)
 
-  head-33 : length ((pre ++ mark 4) ++ id) ≡ length pre + 33
-  head-33 = omega (arith, head-1, length-append (pre ++ mark 4) id, h .wide .id-long)
+  head-diff : length ((pre ++ mark 4) ++ id) ≡ length pre + 1 + 32
+  head-diff = omega (arith, head-1, length-append (pre ++ mark 4) id, h .wide .id-long)
 
-  head-49 : length (((pre ++ mark 4) ++ id) ++ bytesOfWords ws) ≡ length pre + 49
-  head-49 = omega (arith, head-33, length-append ((pre ++ mark 4) ++ id) (bytesOfWords ws), words-length ws)
+  head-body : length (((pre ++ mark 4) ++ id) ++ bytesOfWords ws) ≡ length pre + 1 + 48
+  head-body = omega (arith, head-diff, length-append ((pre ++ mark 4) ++ id) (bytesOfWords ws), words-length ws)
 
-  head-nodes : length ((((pre ++ mark 4) ++ id) ++ bytesOfWords ws) ++ flat ns) ≡ length pre + 49 + 32 * length ns
-  head-nodes = omega (arith, head-49, length-append (((pre ++ mark 4) ++ id) ++ bytesOfWords ws) (flat ns), flat-length ns (h .rows))
+  head-nodes : length ((((pre ++ mark 4) ++ id) ++ bytesOfWords ws) ++ flat ns) ≡ length pre + 1 + 48 + 32 * length ns
+  head-nodes = omega (arith, head-body, length-append (((pre ++ mark 4) ++ id) ++ bytesOfWords ws) (flat ns), flat-length ns (h .rows))
 
-  head-elided : length (((((pre ++ mark 4) ++ id) ++ bytesOfWords ws) ++ flat ns) ++ el) ≡ length pre + 57 + 32 * length ns
+  head-elided : length (((((pre ++ mark 4) ++ id) ++ bytesOfWords ws) ++ flat ns) ++ el) ≡ length pre + 1 + 56 + 32 * length ns
   head-elided = omega (arith, head-nodes, length-append ((((pre ++ mark 4) ++ id) ++ bytesOfWords ws) ++ flat ns) el, h .wide .elided-long)
 
   id-back : block 32 withUpdate (length pre + 1) ≡ id
@@ -144,38 +146,38 @@ module _ (pre post id ws : List ℕ) (ns : List (List ℕ)) (el : List ℕ) (b :
   id-back =
       block-in 32 withUpdate (length pre + 1) (pre ++ mark 4) id ((bytesOfWords ws ++ (flat ns ++ (el ++ bytesOf 8 b))) ++ post) (simp append-assoc) (sym head-1) (h .wide .id-long)
 
-  diff-back : diffAt withUpdate (length pre) ≡ ws
+  diff-back : diffAt withUpdate (length pre + 1) ≡ ws
   unfolding recordOf
   diff-back =
-      ap wordsOf (block-in 16 withUpdate (length pre + 33) ((pre ++ mark 4) ++ id) (bytesOfWords ws) ((flat ns ++ (el ++ bytesOf 8 b)) ++ post) (simp append-assoc) (sym head-33) (words-length ws))
+      ap wordsOf (block-in 16 withUpdate (length pre + 1 + 32) ((pre ++ mark 4) ++ id) (bytesOfWords ws) ((flat ns ++ (el ++ bytesOf 8 b)) ++ post) (simp append-assoc) (sym head-diff) (words-length ws))
       ∙ words-back ws (h .wide .two-words) (h .wide .low-word) (h .wide .high-word)
 
-  count-back : countOf (diffAt withUpdate (length pre)) ≡ length ns
+  count-back : countOf (diffAt withUpdate (length pre + 1)) ≡ length ns
   count-back = ap countOf diff-back ∙ sym (h .counted)
 
-  nodes-back : nodesFrom withUpdate (length pre + 49) (length ns) ≡ ns
+  nodes-back : nodesFrom withUpdate (length pre + 1 + 48) (length ns) ≡ ns
   unfolding recordOf
   nodes-back =
-      nodes-in withUpdate (length pre + 49) ns (((pre ++ mark 4) ++ id) ++ bytesOfWords ws) ((el ++ bytesOf 8 b) ++ post) (simp append-assoc) (sym head-49) (h .rows)
+      nodes-in withUpdate (length pre + 1 + 48) ns (((pre ++ mark 4) ++ id) ++ bytesOfWords ws) ((el ++ bytesOf 8 b) ++ post) (simp append-assoc) (sym head-body) (h .rows)
 
-  elided-back : block 8 withUpdate (length pre + 49 + 32 * length ns) ≡ el
+  elided-back : block 8 withUpdate (length pre + 1 + 48 + 32 * length ns) ≡ el
   unfolding recordOf
   elided-back =
-      block-in 8 withUpdate (length pre + 49 + 32 * length ns) ((((pre ++ mark 4) ++ id) ++ bytesOfWords ws) ++ flat ns) el (bytesOf 8 b ++ post) (simp append-assoc) (sym head-nodes) (h .wide .elided-long)
+      block-in 8 withUpdate (length pre + 1 + 48 + 32 * length ns) ((((pre ++ mark 4) ++ id) ++ bytesOfWords ws) ++ flat ns) el (bytesOf 8 b ++ post) (simp append-assoc) (sym head-nodes) (h .wide .elided-long)
 
-  bucket-back : le (block 8 withUpdate (length pre + 57 + 32 * length ns)) ≡ b
+  bucket-back : le (block 8 withUpdate (length pre + 1 + 56 + 32 * length ns)) ≡ b
   unfolding recordOf
   bucket-back =
-      ap le (block-in 8 withUpdate (length pre + 57 + 32 * length ns) (((((pre ++ mark 4) ++ id) ++ bytesOfWords ws) ++ flat ns) ++ el) (bytesOf 8 b) post (simp append-assoc) (sym head-elided) (bytes-length 8 b))
+      ap le (block-in 8 withUpdate (length pre + 1 + 56 + 32 * length ns) (((((pre ++ mark 4) ++ id) ++ bytesOfWords ws) ++ flat ns) ++ el) (bytesOf 8 b) post (simp append-assoc) (sym head-elided) (bytes-length 8 b))
       ∙ le-bytesOf 8 b (h .wide .bucket)
 
   -- the entry out of its parts
   abbrev parts : ℕ → Entry
   parts c =
-      update (block 32 withUpdate (length pre + 1)) (diffAt withUpdate (length pre)) (nodesFrom withUpdate (length pre + 49) c)
-      (block 8 withUpdate (length pre + 49 + 32 * c)) (le (block 8 withUpdate (length pre + 57 + 32 * c)))
+      update (block 32 withUpdate (length pre + 1)) (diffAt withUpdate (length pre + 1)) (nodesFrom withUpdate (length pre + 1 + 48) c)
+      (block 8 withUpdate (length pre + 1 + 48 + 32 * c)) (le (block 8 withUpdate (length pre + 1 + 56 + 32 * c)))
 
-  update-back : updateOf withUpdate (length pre) ≡ update id ws ns el b
+  update-back : updateOf withUpdate (length pre + 1) ≡ update id ws ns el b
   unfolding updateOf
   update-back =
       ap parts count-back
@@ -185,14 +187,18 @@ module _ (pre post id ws : List ℕ) (ns : List (List ℕ)) (el : List ℕ) (b :
   unfolding nextAt updateAt
   next-update =
       let at : ℕ = length pre in
-      let whole : Next = next (updateOf withUpdate at) (at + updateSize (countOf (diffAt withUpdate at))) in
-      ap (λ (t : Bool). cond t (byTag (getD withUpdate at 0) withUpdate at) (stopped 6)) (le-leb (at + 1) (length withUpdate) (omega (arith, update-log-length)))
-      ∙ ap (λ (t : ℕ). byTag t withUpdate at) update-tag
-      ∙ ap (λ (t : Bool). cond t (cond (reserved (diffAt withUpdate at)) (stopped 4) (cond (leb (at + updateSize (countOf (diffAt withUpdate at))) (length withUpdate)) whole (stopped 6))) (stopped 6))
-      (le-leb (at + 49) (length withUpdate) (omega (arith, update-log-length)))
-      ∙ ap (λ (t : Bool). cond t (stopped 4) (cond (leb (at + updateSize (countOf (diffAt withUpdate at))) (length withUpdate)) whole (stopped 6))) (ap reserved diff-back ∙ h .plain)
-      ∙ ap (λ (t : Bool). cond t whole (stopped 6)) (le-leb (at + updateSize (countOf (diffAt withUpdate at))) (length withUpdate) (omega (arith, update-log-length, count-back)))
-      ∙ ap₂ (λ (e : Entry) (c : ℕ). next e (at + updateSize c)) update-back count-back
+      let p : ℕ = at + 1 in
+      let c : ℕ = countOf (diffAt withUpdate p) in
+      let whole : Next = next (updateOf withUpdate p) (p + updateBody c) in
+      let after : p + updateBody (length ns) ≡ at + updateSize (length ns) = omega arith in
+      ap (λ (t : Bool). cond t (byTag (getD withUpdate at 0) withUpdate p) (stopped 6)) (le-leb (at + 1) (length withUpdate) (omega (arith, update-log-length)))
+      ∙ ap (λ (t : ℕ). byTag t withUpdate p) update-tag
+      ∙ ap (λ (t : Bool). cond t (cond (reserved (diffAt withUpdate p)) (stopped 4) (cond (leb (p + updateBody c) (length withUpdate)) whole (stopped 6))) (stopped 6))
+      (le-leb (p + 48) (length withUpdate) (omega (arith, update-log-length)))
+      ∙ ap (λ (t : Bool). cond t (stopped 4) (cond (leb (p + updateBody c) (length withUpdate)) whole (stopped 6))) (ap reserved diff-back ∙ h .plain)
+      ∙ ap (λ (t : Bool). cond t whole (stopped 6)) (le-leb (p + updateBody c) (length withUpdate) (omega (arith, update-log-length, count-back)))
+      ∙ ap₂ (λ (e : Entry) (k : ℕ). next e (p + updateBody k)) update-back count-back
+      ∙ ap (next (update id ws ns el b)) after
 
 -- ---- any record
 pub record-length : (e : Entry) → WellFormed e → 9 ≤ length (recordOf e)
@@ -208,5 +214,5 @@ pub next-end : (pre post : List ℕ) → nextAt (pre ++ (mark 2 ++ post)) (lengt
 unfolding nextAt
 next-end pre post =
     let s : List ℕ = pre ++ (mark 2 ++ post) in
-    ap (λ (t : Bool). cond t (byTag (getD s (length pre) 0) s (length pre)) (stopped 6)) (le-leb (length pre + 1) (length s) (omega (arith, length-append pre (mark 2 ++ post))))
-    ∙ ap (λ (t : ℕ). byTag t s (length pre)) (byte-in s (length pre) pre 2 post refl refl)
+    ap (λ (t : Bool). cond t (byTag (getD s (length pre) 0) s (length pre + 1)) (stopped 6)) (le-leb (length pre + 1) (length s) (omega (arith, length-append pre (mark 2 ++ post))))
+    ∙ ap (λ (t : ℕ). byTag t s (length pre + 1)) (byte-in s (length pre) pre 2 post refl refl)

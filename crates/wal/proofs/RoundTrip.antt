@@ -15,7 +15,7 @@ use Rattle.blocks.specs.Blocks.{le, bytesOf, block, put}
 use Rattle.blocks.proofs.Laws.{bytes-length, le-bytesOf, put-length, put-fits, put-append}
 use Rattle.page_diff.specs.Diff.{countOf, reserved}
 use Rattle.wal.specs.Log.{Entry, clear, update, mark, recordOf, recordsOf, startRecord, startSize, clearSize, updateSize, finishedLength, endRecord}
-use Rattle.wal.specs.Reader.{startOf, Next, next, ended, stopped, nextAt, Reading, stopAt, andThen, readOn, readIn, readFrom, readLog}
+use Rattle.wal.specs.Reader.{startOf, Next, next, ended, stopped, nextAt, Reading, stopAt, andThen, readOn, readIn, readBy, readFrom, readLog}
 use Rattle.wal.specs.Writer.{capacity, position, ifOpen, ifRoom, beginAnswer, beginLog, beginWriter, clearAnswer, updateAnswer, recordLog, recordWriter, finishAnswer, finishLog}
 use Rattle.wal.specs.Run.{Handed, WellFormed, Run, begun, with-clear, with-update, logOf}
 use Rattle.wal.specs.declared.Writer.{Writer}
@@ -39,7 +39,7 @@ readAs es at = record { entries = es; at = at; stop = given tt }
 -- with fuel for each entry
 pub read-records : (f : ℕ) (pre post : List ℕ) (es : List Entry) → AllWellFormed es → length es ≤ f
     → readIn f (pre ++ (recordsOf es ++ (mark 2 ++ post))) (length pre) ≡ readAs es (length pre + length (recordsOf es))
-unfolding readIn recordsOf
+unfolding readBy recordsOf
 read-records zero pre post [] none l =
     let z : length pre ≡ length pre + 0 = omega arith in
     ap (λ (x : Next). readOn x (length pre) (λ p. stopAt p (refused 6))) (next-end pre post) ∙ ap (readAs []) z

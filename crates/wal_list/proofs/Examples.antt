@@ -7,10 +7,10 @@ use lib.Dec.{leb}
 use lib.ListN.{length, replicate, length-replicate}
 use Rattle.answers.specs.Answers.{Answer, given, refused}
 use Rattle.answers.specs.declared.Refusal.the-variants.{LengthUnfit}
-use Rattle.blocks.specs.Blocks.{block, put}
+use Rattle.blocks.specs.Blocks.{block, put, flat}
 use Rattle.page_diff.specs.Diff.{digit, marked, slotsBelow}
-use Rattle.wal.specs.Log.{Entry, clear, update, startRecord, endRecord, flat, recordOf, recordsOf}
-use Rattle.wal.specs.Reader.{startOf, nextAt, clearAt, updateAt, updateOf, nodesFrom, readIn}
+use Rattle.wal.specs.Log.{Entry, clear, update, startRecord, endRecord, recordOf, recordsOf}
+use Rattle.wal.specs.Reader.{startOf, nextAt, clearAt, updateAt, updateOf, nodesFrom, readIn, readBy}
 use Rattle.wal.proofs.Examples.{log}
 use Rattle.wal_list.specs.Lines.{ascii, digitsIn, entryLines, linesOf}
 use Rattle.wal_list.specs.Shown.{Said, on, over, firstShown, shownAt, lineSaid, lineAnswer, lineAfter, linesSize, linesAnswer}
@@ -21,13 +21,13 @@ abbrev entries : List Entry
 entries = clear 3 ∷ update (replicate 32 1) (5 ∷ 0 ∷ []) (replicate 32 2 ∷ replicate 32 3 ∷ []) (replicate 8 4) 9 ∷ []
 
 listed : linesOf (startRecord 7 ++ recordsOf entries ++ endRecord 143) ≡ ascii "0 start 7\n5 clear 3\n14 update 9 2\n143 end\n"
-unfolding block digit marked slotsBelow flat recordOf recordsOf startOf nextAt clearAt updateAt updateOf nodesFrom readIn digitsIn entryLines linesOf
+unfolding block digit marked slotsBelow flat recordOf recordsOf startOf nextAt clearAt updateAt updateOf nodesFrom readBy digitsIn entryLines linesOf
 listed = refl
 
 -- no log; one byte more than 65,536; 5, 7; an unknown tag and a cut record, each at its offset
 pub texts : map linesOf ([] ∷ replicate 65537 1 ∷ (1 ∷ []) ∷ replicate 4096 2 ∷ (1 ∷ replicate 4095 0) ∷ (1 ∷ 7 ∷ 0 ∷ 0 ∷ 0 ∷ (3 ∷ 4 ∷ replicate 7 0) ++ (4 ∷ (replicate 32 0 ++ (replicate 15 0xFF ++ (0x3F ∷ replicate 4033 0))))) ∷ [])
     ≡ ascii "empty\n" ∷ ascii "0 refused 2\n" ∷ ascii "0 refused 5\n" ∷ ascii "0 refused 7\n" ∷ ascii "0 start 0\n5 refused 8\n" ∷ ascii "0 start 7\n5 clear 4\n14 refused 6\n" ∷ []
-unfolding linesOf startOf readIn nextAt block marked slotsBelow digitsIn entryLines
+unfolding linesOf startOf readBy nextAt block marked slotsBelow digitsIn entryLines
 texts = refl
 
 -- line by line into 80 bytes, of the log in `wal`'s examples: how long each line is, and where the next one is
@@ -45,7 +45,7 @@ filled = refl
 
 -- all lines at once: the memory that any log's lines need, and one byte less
 pub all-at-once : linesAnswer (replicate 262304 6) log ∷ linesAnswer (replicate 262303 6) log ∷ [] ≡ given 42 ∷ refused 2 ∷ []
-unfolding linesOf startOf readIn nextAt block marked slotsBelow digitsIn entryLines
+unfolding linesOf startOf readBy nextAt block marked slotsBelow digitsIn entryLines
 all-at-once =
     ap₂ (λ (a b : ℕ). cond (leb linesSize a) (given (length (linesOf log))) (refused 2) ∷ cond (leb linesSize b) (given (length (linesOf log))) (refused 2) ∷ [])
     (length-replicate {A = ℕ} 262304 6) (length-replicate {A = ℕ} 262303 6)

@@ -72,8 +72,8 @@ with-room l m s a h (x, y) = (x ∙ room-answer l s h, y ∙ room-after l s h)
 pub shown-update : (log : List ℕ) (at b c p : ℕ) → (at ≡ 0 → ⊥) → There log at b c p → shownAt log at ≡ more (decimal at ++ ascii " update " ++ decimal b ++ ascii " " ++ decimal c ++ ascii "\n") p
 unfolding updateOf
 shown-update log at b c p n t =
-    shown-next log at (next (updateOf log at) p) n (t .here)
-    ∙ sym (ap (λ (k : ℕ). more (decimal at ++ ascii " update " ++ decimal (le (block 8 log (at + 57 + 32 * k))) ++ ascii " " ++ decimal k ++ ascii "\n") p) (t .count))
+    shown-next log at (next (updateOf log (at + 1)) p) n (t .here)
+    ∙ sym (ap (λ (k : ℕ). more (decimal at ++ ascii " update " ++ decimal (le (block 8 log (at + 1 + 56 + 32 * k))) ++ ascii " " ++ decimal k ++ ascii "\n") p) (t .count))
     ∙ sym (ap (λ (x : ℕ). more (decimal at ++ ascii " update " ++ decimal x ++ ascii " " ++ decimal c ++ ascii "\n") p) (t .bucket))
 
 -- a head that is no refusal, no clear and no update is the end

@@ -48,19 +48,19 @@ module _ (at : ℕ) (e : WalEntry) where
 
 -- ---- an update, field by field
 module _ (log : List ℕ) (at b c p : ℕ) (e : WalEntry) (t : There log at b c p) where
-  pub update-taken : e .what ≡ what.Update b → e .id ≡ block 32 log (at + 1) → e .diff .words ≡ readWords (block 16 log (at + 33)) → e .packed ≡ packedBy (rows (nodesFrom log (at + 49) c)) c
-      → e .elided ≡ block 8 log (at + 49 + 32 * c) → e .next ≡ p → Taken (nextAt log at) at e
+  pub update-taken : e .what ≡ what.Update b → e .id ≡ block 32 log (at + 1) → e .diff .words ≡ readWords (block 16 log (at + 1 + 32)) → e .packed ≡ packedBy (rows (nodesFrom log (at + 1 + 48) c)) c
+      → e .elided ≡ block 8 log (at + 1 + 48 + 32 * c) → e .next ≡ p → Taken (nextAt log at) at e
   unfolding updateOf
   update-taken w i d k l n =
-      let same : c ≡ countOf (diffAt log at) = t .count in
-      let many : length (nodesFrom log (at + 49) c) ≡ c = nodes-length log (at + 49) c in
+      let same : c ≡ countOf (diffAt log (at + 1)) = t .count in
+      let many : length (nodesFrom log (at + 1 + 48) c) ≡ c = nodes-length log (at + 1 + 48) c in
       subst (λ (m : Next). Taken m at e) (sym (t .here))
       (record {
-        what-is = ap whatSaid w ∙ ap updates (t .bucket ∙ ap (λ (j : ℕ). le (block 8 log (at + 57 + 32 * j))) same);
+        what-is = ap whatSaid w ∙ ap updates (t .bucket ∙ ap (λ (j : ℕ). le (block 8 log (at + 1 + 56 + 32 * j))) same);
         id-is = i;
-        diff-is = d ∙ read-words (block 16 log (at + 33)) (t .plain);
-        packed-is = k ∙ ap (λ (j : ℕ). packedBy (rows (nodesFrom log (at + 49) c)) j) (sym many) ∙ ap (λ (j : ℕ). packedBy (rows (nodesFrom log (at + 49) j)) (length (nodesFrom log (at + 49) j))) same;
-        elided-is = l ∙ ap (λ (j : ℕ). block 8 log (at + 49 + 32 * j)) same;
+        diff-is = d ∙ read-words (block 16 log (at + 1 + 32)) (t .plain);
+        packed-is = k ∙ ap (λ (j : ℕ). packedBy (rows (nodesFrom log (at + 1 + 48) c)) j) (sym many) ∙ ap (λ (j : ℕ). packedBy (rows (nodesFrom log (at + 1 + 48) j)) (length (nodesFrom log (at + 1 + 48) j))) same;
+        elided-is = l ∙ ap (λ (j : ℕ). block 8 log (at + 1 + 48 + 32 * j)) same;
         next-is = n;
       })
 

@@ -57,11 +57,11 @@ module _ (log : List ℕ) (at : ℕ) where
     unfolding nextAt
     next-end t = simp (within, eq-eqb (getD log at 0) 2 t)
 
-    by-clear : getD log at 0 ≡ 3 → nextAt log at ≡ clearAt log at
+    by-clear : getD log at 0 ≡ 3 → nextAt log at ≡ clearAt log (at + 1)
     unfolding nextAt
     by-clear t = simp (within, t)
 
-    by-update : getD log at 0 ≡ 4 → nextAt log at ≡ updateAt log at
+    by-update : getD log at 0 ≡ 4 → nextAt log at ≡ updateAt log (at + 1)
     unfolding nextAt
     by-update t = simp (within, t)
 
@@ -69,31 +69,31 @@ module _ (log : List ℕ) (at : ℕ) where
     unfolding nextAt
     next-unknown a b c = simp (within, ne-eqb (getD log at 0) 2 a, ne-eqb (getD log at 0) 3 b, ne-eqb (getD log at 0) 4 c)
 
-    pub next-clear-cut : getD log at 0 ≡ 3 → length log < at + 9 → nextAt log at ≡ stopped 6
+    pub next-clear-cut : getD log at 0 ≡ 3 → length log < at + 1 + 8 → nextAt log at ≡ stopped 6
     unfolding clearAt
-    next-clear-cut t h = by-clear t ∙ simp (lt-leb (at + 9) (length log) h)
+    next-clear-cut t h = by-clear t ∙ simp (lt-leb (at + 1 + 8) (length log) h)
 
-    pub next-clear : getD log at 0 ≡ 3 → at + 9 ≤ length log → nextAt log at ≡ next (clear (le (block 8 log (at + 1)))) (at + 9)
+    pub next-clear : getD log at 0 ≡ 3 → at + 1 + 8 ≤ length log → nextAt log at ≡ next (clear (le (block 8 log (at + 1)))) (at + 1 + 8)
     unfolding clearAt
-    next-clear t h = by-clear t ∙ simp (le-leb (at + 9) (length log) h)
+    next-clear t h = by-clear t ∙ simp (le-leb (at + 1 + 8) (length log) h)
 
     -- "in an update: 6 up to the diff, 4, 6"
     module _ (t : getD log at 0 ≡ 4) where
-      pub next-diff-cut : length log < at + 49 → nextAt log at ≡ stopped 6
+      pub next-diff-cut : length log < at + 1 + 48 → nextAt log at ≡ stopped 6
       unfolding updateAt
-      next-diff-cut h = by-update t ∙ simp (lt-leb (at + 49) (length log) h)
+      next-diff-cut h = by-update t ∙ simp (lt-leb (at + 1 + 48) (length log) h)
 
-      pub next-reserved : at + 49 ≤ length log → reserved (diffAt log at) ≡ true → nextAt log at ≡ stopped 4
+      pub next-reserved : at + 1 + 48 ≤ length log → reserved (diffAt log (at + 1)) ≡ true → nextAt log at ≡ stopped 4
       unfolding updateAt
-      next-reserved h r = by-update t ∙ simp (le-leb (at + 49) (length log) h, r)
+      next-reserved h r = by-update t ∙ simp (le-leb (at + 1 + 48) (length log) h, r)
 
-      pub next-update-cut : at + 49 ≤ length log → reserved (diffAt log at) ≡ false → length log < at + (65 + 32 * countOf (diffAt log at)) → nextAt log at ≡ stopped 6
+      pub next-update-cut : at + 1 + 48 ≤ length log → reserved (diffAt log (at + 1)) ≡ false → length log < at + 1 + (64 + 32 * countOf (diffAt log (at + 1))) → nextAt log at ≡ stopped 6
       unfolding updateAt
-      next-update-cut h r s = by-update t ∙ simp (le-leb (at + 49) (length log) h, r, lt-leb (at + (65 + 32 * countOf (diffAt log at))) (length log) s)
+      next-update-cut h r s = by-update t ∙ simp (le-leb (at + 1 + 48) (length log) h, r, lt-leb (at + 1 + (64 + 32 * countOf (diffAt log (at + 1)))) (length log) s)
 
-      pub next-update : reserved (diffAt log at) ≡ false → at + (65 + 32 * countOf (diffAt log at)) ≤ length log → nextAt log at ≡ next (updateOf log at) (at + (65 + 32 * countOf (diffAt log at)))
+      pub next-update : reserved (diffAt log (at + 1)) ≡ false → at + 1 + (64 + 32 * countOf (diffAt log (at + 1))) ≤ length log → nextAt log at ≡ next (updateOf log (at + 1)) (at + 1 + (64 + 32 * countOf (diffAt log (at + 1))))
       unfolding updateAt
-      next-update r s = by-update t ∙ simp (le-leb (at + 49) (length log) (omega arith), r, le-leb (at + (65 + 32 * countOf (diffAt log at))) (length log) s)
+      next-update r s = by-update t ∙ simp (le-leb (at + 1 + 48) (length log) (omega arith), r, le-leb (at + 1 + (64 + 32 * countOf (diffAt log (at + 1)))) (length log) s)
 
 -- ---- the diff that is read
 module _ (bs : List ℕ) where

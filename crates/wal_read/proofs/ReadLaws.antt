@@ -14,15 +14,15 @@ use Rattle.blocks.specs.Blocks.{le, block}
 use Rattle.page_diff.specs.Diff.{countOf, reserved}
 use Rattle.page_diff.proofs.Walk.{plain-count}
 use Rattle.wal.specs.Log.{Entry, clear, update}
-use Rattle.wal.specs.Reader.{Next, next, ended, stopped, nodesFrom, diffAt, updateOf, nextAt, Reading, stopAt, andThen, readOn, readIn, readFrom}
+use Rattle.wal.specs.Reader.{Next, next, ended, stopped, nodesFrom, diffAt, updateOf, nextAt, Reading, stopAt, andThen, readOn, readIn, readBy, readFrom}
 use Rattle.wal_read.specs.Head.{aClear, anUpdate, theEnd, aRefusal, headOf}
 use Rattle.wal_read.proofs.NextLaws.{next-past, next-end, next-unknown, next-clear-cut, next-clear, next-diff-cut, next-reserved, next-update-cut, next-update}
 use Rattle.wal_read.proofs.Nodes.{nodes-length}
 
 -- ---- what can stand at a position
 pub data Stands (log : List ℕ) (at : ℕ) : Next → Type 0 where
-  a-clear : at + 9 ≤ length log → Stands log at (next (clear (le (block 8 log (at + 1)))) (at + 9))
-  an-update : reserved (diffAt log at) ≡ false → at + (65 + 32 * countOf (diffAt log at)) ≤ length log → Stands log at (next (updateOf log at) (at + (65 + 32 * countOf (diffAt log at))))
+  a-clear : at + 1 + 8 ≤ length log → Stands log at (next (clear (le (block 8 log (at + 1)))) (at + 1 + 8))
+  an-update : reserved (diffAt log (at + 1)) ≡ false → at + 1 + (64 + 32 * countOf (diffAt log (at + 1))) ≤ length log → Stands log at (next (updateOf log (at + 1)) (at + 1 + (64 + 32 * countOf (diffAt log (at + 1)))))
   an-end : at < length log → Stands log at ended
   a-stop : (n : ℕ) → Stands log at (stopped n)
 
@@ -31,18 +31,18 @@ module _ (log : List ℕ) (at : ℕ) where
   stop n e = subst (Stands log at) (sym e) (a-stop n)
 
   update-stands : at < length log → getD log at 0 ≡ 4 → Stands log at (nextAt log at)
-  update-stands h t = go (decLe (at + 49) (length log)) (reserved (diffAt log at)) refl (decLe (at + (65 + 32 * countOf (diffAt log at))) (length log))
+  update-stands h t = go (decLe (at + 1 + 48) (length log)) (reserved (diffAt log (at + 1))) refl (decLe (at + 1 + (64 + 32 * countOf (diffAt log (at + 1)))) (length log))
     where
-      go : Dec (at + 49 ≤ length log) → (b : Bool) → reserved (diffAt log at) ≡ b → Dec (at + (65 + 32 * countOf (diffAt log at)) ≤ length log) → Stands log at (nextAt log at)
+      go : Dec (at + 1 + 48 ≤ length log) → (b : Bool) → reserved (diffAt log (at + 1)) ≡ b → Dec (at + 1 + (64 + 32 * countOf (diffAt log (at + 1))) ≤ length log) → Stands log at (nextAt log at)
       go (no p) b r q = stop 6 (next-diff-cut log at h t (lt-of-not-le p))
       go (yes p) true r q = stop 4 (next-reserved log at h t p r)
       go (yes p) false r (no q) = stop 6 (next-update-cut log at h t p r (lt-of-not-le q))
       go (yes p) false r (yes q) = subst (Stands log at) (sym (next-update log at h t r q)) (an-update r q)
 
   pub stands : Stands log at (nextAt log at)
-  stands = go (decLe (length log) at) (eqb (getD log at 0) 2) (eqb (getD log at 0) 3) (eqb (getD log at 0) 4) refl refl refl (decLe (at + 9) (length log))
+  stands = go (decLe (length log) at) (eqb (getD log at 0) 2) (eqb (getD log at 0) 3) (eqb (getD log at 0) 4) refl refl refl (decLe (at + 1 + 8) (length log))
     where
-      go : Dec (length log ≤ at) → (a b c : Bool) → eqb (getD log at 0) 2 ≡ a → eqb (getD log at 0) 3 ≡ b → eqb (getD log at 0) 4 ≡ c → Dec (at + 9 ≤ length log) → Stands log at (nextAt log at)
+      go : Dec (length log ≤ at) → (a b c : Bool) → eqb (getD log at 0) 2 ≡ a → eqb (getD log at 0) 3 ≡ b → eqb (getD log at 0) 4 ≡ c → Dec (at + 1 + 8 ≤ length log) → Stands log at (nextAt log at)
       go (yes p) a b c x y z q = stop 6 (next-past log at p)
       go (no p) true b c x y z q = let h : at < length log = lt-of-not-le p in subst (Stands log at) (sym (next-end log at h (eqb-true (getD log at 0) 2 x))) (an-end h)
       go (no p) false true c x y z (yes q) = subst (Stands log at) (sym (next-clear log at (lt-of-not-le p) (eqb-true (getD log at 0) 3 y) q)) (a-clear q)
@@ -59,8 +59,8 @@ pub moves : (log : List ℕ) (at : ℕ) (e : Entry) (p : ℕ) → nextAt log at 
 moves log at e p h = go (nextAt log at) (stands log at) h
   where
     go : (n : Next) → Stands log at n → n ≡ next e p → Moved log at p
-    go n (a-clear l) h = let q : p ≡ at + 9 = cc in record { on = omega arith; within = omega arith }
-    go n (an-update r l) h = let q : p ≡ at + (65 + 32 * countOf (diffAt log at)) = cc in record { on = omega arith; within = omega arith }
+    go n (a-clear l) h = let q : p ≡ at + 1 + 8 = cc in record { on = omega arith; within = omega arith }
+    go n (an-update r l) h = let q : p ≡ at + 1 + (64 + 32 * countOf (diffAt log (at + 1))) = cc in record { on = omega arith; within = omega arith }
     go n (an-end l) h = let z : _≡_ {A = ℕ} 0 1 = cc in absurd (omega arith)
     go n (a-stop k) h = let z : _≡_ {A = ℕ} 0 1 = cc in absurd (omega arith)
 
@@ -69,7 +69,7 @@ unfolding updateOf
 clear-moves log at b p h = go (nextAt log at) (stands log at) h
   where
     go : (n : Next) → Stands log at n → n ≡ next (clear b) p → p ≡ at + 9
-    go n (a-clear l) h = cc
+    go n (a-clear l) h = let q : p ≡ at + 1 + 8 = cc in omega arith
     go n (an-update r l) h = let z : _≡_ {A = ℕ} 0 1 = cc in absurd (omega arith)
     go n (an-end l) h = let z : _≡_ {A = ℕ} 0 1 = cc in absurd (omega arith)
     go n (a-stop k) h = let z : _≡_ {A = ℕ} 0 1 = cc in absurd (omega arith)
@@ -88,14 +88,14 @@ update-moves log at id ws ns elided b p h = go (nextAt log at) (stands log at) h
     go : (n : Next) → Stands log at n → n ≡ next (update id ws ns elided b) p → Sized log at ws ns p
     go n (a-clear l) h = let z : _≡_ {A = ℕ} 0 1 = cc in absurd (omega arith)
     go n (an-update r l) h =
-        let e : ws ≡ diffAt log at = cc in
-        let f : ns ≡ nodesFrom log (at + 49) (countOf (diffAt log at)) = cc in
-        let g : p ≡ at + (65 + 32 * countOf (diffAt log at)) = cc in
+        let e : ws ≡ diffAt log (at + 1) = cc in
+        let f : ns ≡ nodesFrom log (at + 1 + 48) (countOf (diffAt log (at + 1))) = cc in
+        let g : p ≡ at + 1 + (64 + 32 * countOf (diffAt log (at + 1))) = cc in
         record {
           plain = ap reserved e ∙ r;
-          few = omega (arith, ap countOf e, plain-count (diffAt log at) r);
-          nodes = ap length f ∙ nodes-length log (at + 49) (countOf (diffAt log at)) ∙ sym (ap countOf e);
-          after = g ∙ sym (ap (λ (x : List ℕ). at + (65 + 32 * countOf x)) e);
+          few = omega (arith, ap countOf e, plain-count (diffAt log (at + 1)) r);
+          nodes = ap length f ∙ nodes-length log (at + 1 + 48) (countOf (diffAt log (at + 1))) ∙ sym (ap countOf e);
+          after = omega (arith, g, ap countOf e);
         }
     go n (an-end l) h = let z : _≡_ {A = ℕ} 0 1 = cc in absurd (omega arith)
     go n (a-stop k) h = let z : _≡_ {A = ℕ} 0 1 = cc in absurd (omega arith)
@@ -121,10 +121,10 @@ head-clear (stopped n) b p h = let z : _≡_ {A = ℕ} 0 1 = cc in absurd (omega
 
 -- of an update, with all of it in the log
 pub record There (log : List ℕ) (at b c p : ℕ) : Type 0 where
-  pub here : nextAt log at ≡ next (updateOf log at) p
-  pub bucket : b ≡ le (block 8 log (at + 57 + 32 * c))
-  pub plain : reserved (diffAt log at) ≡ false
-  pub count : c ≡ countOf (diffAt log at)
+  pub here : nextAt log at ≡ next (updateOf log (at + 1)) p
+  pub bucket : b ≡ le (block 8 log (at + 1 + 56 + 32 * c))
+  pub plain : reserved (diffAt log (at + 1)) ≡ false
+  pub count : c ≡ countOf (diffAt log (at + 1))
   pub few : c ≤ 126
   pub after : p ≡ at + (65 + 32 * c)
   pub within : at + (65 + 32 * c) ≤ length log
@@ -136,15 +136,15 @@ head-update log at b c p h = go (nextAt log at) (stands log at) refl h
     go : (n : Next) → Stands log at n → nextAt log at ≡ n → anUpdate b c p ≡ headOf n → There log at b c p
     go n (a-clear l) i h = let z : _≡_ {A = ℕ} 0 1 = cc in absurd (omega arith)
     go n (an-update r l) i h =
-        let e : c ≡ countOf (diffAt log at) = cc in
-        let f : b ≡ le (block 8 log (at + 57 + 32 * countOf (diffAt log at))) = cc in
-        let g : p ≡ at + (65 + 32 * countOf (diffAt log at)) = cc in
+        let e : c ≡ countOf (diffAt log (at + 1)) = cc in
+        let f : b ≡ le (block 8 log (at + 1 + 56 + 32 * countOf (diffAt log (at + 1)))) = cc in
+        let g : p ≡ at + 1 + (64 + 32 * countOf (diffAt log (at + 1))) = cc in
         record {
-          here = i ∙ sym (ap (next (updateOf log at)) g);
-          bucket = f ∙ sym (ap (λ (k : ℕ). le (block 8 log (at + 57 + 32 * k))) e);
+          here = i ∙ sym (ap (next (updateOf log (at + 1))) g);
+          bucket = f ∙ sym (ap (λ (k : ℕ). le (block 8 log (at + 1 + 56 + 32 * k))) e);
           plain = r;
           count = e;
-          few = omega (arith, plain-count (diffAt log at) r);
+          few = omega (arith, plain-count (diffAt log (at + 1)) r);
           after = omega arith;
           within = omega arith;
         }
@@ -160,7 +160,7 @@ alike log at f g same (stopped k) h = refl
 
 -- fuel above the bytes that are left changes nothing
 pub read-enough : (f g : ℕ) (log : List ℕ) (at : ℕ) → length log ≤ at + f → length log ≤ at + g → readIn f log at ≡ readIn g log at
-unfolding readIn
+unfolding readBy
 read-enough zero zero log at p q = refl
 read-enough zero (suc g) log at p q =
     let s = next-past log at (omega arith) in
@@ -175,13 +175,13 @@ read-by : (f : ℕ) (log : List ℕ) (at : ℕ) → length log ≤ at + f → re
 read-by f log at h = read-enough (length log) (suc f) log at (omega arith) (omega arith)
 
 pub read-entry : (log : List ℕ) (at : ℕ) (e : Entry) (p : ℕ) → nextAt log at ≡ next e p → readFrom log at ≡ andThen e (readFrom log p)
-unfolding readIn
+unfolding readBy
 read-entry log at e p h = read-by (length log) log at (omega arith) ∙ ap (λ (n : Next). readOn n at (λ r. readIn (length log) log r)) h
 
 pub read-end : (log : List ℕ) (at : ℕ) → nextAt log at ≡ ended → readFrom log at ≡ stopAt at (given tt)
-unfolding readIn
+unfolding readBy
 read-end log at h = read-by (length log) log at (omega arith) ∙ ap (λ (n : Next). readOn n at (λ r. readIn (length log) log r)) h
 
 pub read-stop : (log : List ℕ) (at k : ℕ) → nextAt log at ≡ stopped k → readFrom log at ≡ stopAt at (refused k)
-unfolding readIn
+unfolding readBy
 read-stop log at k h = read-by (length log) log at (omega arith) ∙ ap (λ (n : Next). readOn n at (λ r. readIn (length log) log r)) h

@@ -18,11 +18,6 @@ use page_diff::Diff;
 use page_diff::DiffAnswer;
 use page_diff::Packed;
 
-// Where the diff of an update stands, and where its nodes do.
-const DIFF_AT: usize = 33;
-
-const NODES_AT: usize = 49;
-
 // A record without its nodes: the bucket, the count of nodes, and the position after the record.
 pub enum Head {
     Clear {
@@ -73,56 +68,57 @@ pub fn set(log: &[u8]) -> Number
     Number::Is(blocks::read_u32(log, 1) as u64)
 }
 
-// The diff of the update at `at`, or a refusal of it.
-fn diff_at(log: &[u8], at: usize) -> DiffAnswer
-    requires { ⌜ at + 49 ≤ length (now log) ⌝ }
-    ensures { λ r. ⌜ (outcomeSaid (r .outcome) ≡ readAnswer (block 16 (now (log .entry)) (at + 33))) × (r .diff .words ≡ readWords (block 16 (now (log .entry)) (at + 33))) ⌝ }
+// The diff of the update whose body is at `body`, or a refusal of it.
+fn diff_at(log: &[u8], body: usize) -> DiffAnswer
+    requires { ⌜ body + 48 ≤ length (now log) ⌝ }
+    ensures { λ r. ⌜ (outcomeSaid (r .outcome) ≡ readAnswer (block 16 (now (log .entry)) (body + 32))) × (r .diff .words ≡ readWords (block 16 (now (log .entry)) (body + 32))) ⌝ }
 {
-    page_diff::from_bytes(blocks::block_16(log, at + DIFF_AT))
+    page_diff::from_bytes(blocks::block_16(log, body + wal::DIFF_AT))
 }
 
-// The record at `at` without its nodes. It looks at no byte past the record, and no sum wraps on a
-// position that no call answered.
+// The record at `at` without its nodes: its mark, and what is read after it. It looks at no byte past the record,
+// and no sum wraps on a position that no call answered.
 pub fn head_at(log: &[u8], at: usize) -> Head
     ensures { λ r. ⌜ headSaid r ≡ headOf (nextAt (now (log .entry)) at) ⌝ }
 {
     if log.len() <= at {
         return Head::Refused(Refusal::LogCut);
     }
-    let left = log.len() - at;
+    let body = at + wal::MARK_SIZE;
+    let left = log.len() - body;
     let tag = log[at];
     if tag == wal::WAL_ENTRY_TAG_END {
         return Head::End;
     }
     if tag == wal::WAL_ENTRY_TAG_CLEAR {
-        if left < wal::CLEAR_SIZE {
+        if left < wal::CLEAR_BODY {
             return Head::Refused(Refusal::LogCut);
         }
         return Head::Clear {
-            bucket: blocks::read_u64(log, at + 1),
-            next: at + wal::CLEAR_SIZE,
+            bucket: blocks::read_u64(log, body),
+            next: body + wal::CLEAR_BODY,
         };
     }
     if tag != wal::WAL_ENTRY_TAG_UPDATE {
         return Head::Refused(Refusal::TagUnknown);
     }
-    if left < NODES_AT {
+    if left < wal::NODES_AT {
         return Head::Refused(Refusal::LogCut);
     }
-    let read = diff_at(log, at);
+    let read = diff_at(log, body);
     let outcome = read.outcome;
     if let Outcome::Refused(why) = outcome {
         return Head::Refused(why);
     }
     let count = page_diff::count(read.diff);
-    let size = wal::UPDATE_SIZE + 32 * count;
+    let size = wal::UPDATE_BODY + 32 * count;
     if left < size {
         return Head::Refused(Refusal::LogCut);
     }
     Head::Update {
-        bucket: blocks::read_u64(log, at + (size - 8)),
+        bucket: blocks::read_u64(log, body + (size - 8)),
         count,
-        next: at + size,
+        next: body + size,
     }
 }
 
@@ -171,11 +167,12 @@ pub fn entry_at(log: &[u8], at: usize) -> WalEntry
             count,
             next,
         } => {
-            let id = blocks::block_32(log, at + 1);
-            let read = diff_at(log, at);
+            let body = at + wal::MARK_SIZE;
+            let id = blocks::block_32(log, body);
+            let read = diff_at(log, body);
             let diff = read.diff;
-            let packed = page_diff::pack_up(nodes_at(log, at + NODES_AT, count), count);
-            let elided = blocks::block_8(log, at + NODES_AT + 32 * count);
+            let packed = page_diff::pack_up(nodes_at(log, body + wal::NODES_AT, count), count);
+            let elided = blocks::block_8(log, body + wal::NODES_AT + 32 * count);
             WalEntry {
                 what: What::Update(bucket),
                 id,

@@ -8,10 +8,10 @@ use native.Mathlib.Omega.{arith}
 use lib.ListN.{length, replicate}
 use borrow.Author.Tests.{le-leb, lt-leb}
 use Rattle.answers.specs.Answers.{Answer, given, refused, accepted}
-use Rattle.blocks.specs.Blocks.{block, put}
+use Rattle.blocks.specs.Blocks.{block, put, flat}
 use Rattle.page_diff.specs.Diff.{marked, slotsBelow}
 use Rattle.page_diff.specs.Pack.{tableOf}
-use Rattle.wal.specs.Log.{clear, flat, recordOf, startRecord}
+use Rattle.wal.specs.Log.{clear, recordOf, startRecord}
 use Rattle.wal.specs.Writer.{capacity, position, beginAnswer, beginWriter, beginLog, clearAnswer, updateAnswer}
 use Rattle.wal.specs.declared.Writer.{Writer}
 use Rattle.wal.specs.declared.Writer.the-variants.{Fresh, Open, Finished}

@@ -107,7 +107,7 @@ returns-3 : tie.Need-returns-3
 returns-3 c = let stop = c .before in let read = stop .before .before in let then1 = read .before in let args = then1 .before .before .before .before .args in let s = step-stop (args .n) (args .image .now) (args .log .now) (args .at) (args .hash) (fits then1) (read .head-at .result) (read .head-at .ensures) (stop .before .match .keys2) (stop .match2 .keys2) in (c .stopped-step .ensures ∙ s .0, s .1)
 
 returns-4 : tie.Need-returns-4
-returns-4 c = let told = c .before in let then1 = told .before .before .before .before .before in let args = then1 .before .before .before .before .args in let t = there told in step-outside (args .n) (args .image .now) (args .log .now) (args .at) (args .hash) (fits then1) (updateOf (args .log .now) (args .at)) (told .before .head2 .given .0 .1 .1 .0) (t .here) (subst (λ (b : ℕ). args .n ≤ b) (sym (there-bucket (args .log .now) (args .at) (told .before .head2 .given .0 .0) (told .before .head2 .given .0 .1 .0) (told .before .head2 .given .0 .1 .1 .0) t)) (c .if3 .taken))
+returns-4 c = let told = c .before in let then1 = told .before .before .before .before .before in let args = then1 .before .before .before .before .args in let t = there told in step-outside (args .n) (args .image .now) (args .log .now) (args .at) (args .hash) (fits then1) (updateOf (args .log .now) (args .at + 1)) (told .before .head2 .given .0 .1 .1 .0) (t .here) (subst (λ (b : ℕ). args .n ≤ b) (sym (there-bucket (args .log .now) (args .at) (told .before .head2 .given .0 .0) (told .before .head2 .given .0 .1 .0) (told .before .head2 .given .0 .1 .1 .0) t)) (c .if3 .taken))
 
 add-write-tag-2 : tie.Need-add-write-tag-2
 add-write-tag-2 c = search needs
@@ -139,6 +139,9 @@ mul-a c = let else3 = c .before .before .before .before .before in let f = facts
 add-e : tie.Need-add-e
 add-e c = let else3 = c .before .before .before .before .before in let f = facts (else3 .before .before .before .before .before .before) in omega (arith, f .0, f .1, f .2, else3 .if3 .left)
 
+add-body : tie.Need-add-body
+add-body c = omega (arith, there (c .before .before .before .before .before .before))
+
 sub-apply-page : tie.Need-sub-apply-page
 sub-apply-page c = search needs
 
@@ -149,13 +152,13 @@ part-apply-page-end : tie.Need-part-apply-page-end
 part-apply-page-end c = let called = c .before .before in let else3 = called .before .before .before in let args = else3 .before .before .before .before .before .before .before .before .before .before .args in omega (arith, page-fits else3, ap length (tagged called), length-set (args .image .now) (else3 .before .before .head2 .given .0 .0) (fullTag (args .hash)))
 
 apply-page-requires : tie.Need-apply-page-requires
-apply-page-requires c κs = let called = c .before .before .before in let else3 = called .before .before .before in let told = else3 .before in let args = told .before .before .before .before .before .before .before .before .before .args in let b = told .before .head2 .given .0 .0 in let t = there told in let a = pageStart (args .n) b in let size : a + 4096 - a ≡ 4096 = omega arith in (mid-len a (a + 4096) (putMid b (b + 1 - b) (args .image .now) (called .write-tag2 .last .0)) (omega (arith, page-fits else3, ap length (tagged called), length-set (args .image .now) b (fullTag (args .hash)))) ∙ size, t .plain, t .count, t .within)
+apply-page-requires c κs = let called = c .before .before .before in let else3 = called .before .before .before in let told = else3 .before in let args = told .before .before .before .before .before .before .before .before .before .args in let b = told .before .head2 .given .0 .0 in let t = there told in let a = pageStart (args .n) b in let size : a + 4096 - a ≡ 4096 = omega arith in (mid-len a (a + 4096) (putMid b (b + 1 - b) (args .image .now) (called .write-tag2 .last .0)) (omega (arith, page-fits else3, ap length (tagged called), length-set (args .image .now) b (fullTag (args .hash)))) ∙ size, t .plain, t .count, omega (arith, t .within))
 
 same-length-2 : tie.Need-same-length-2
 same-length-2 c = search needs
 
 returns-5 : tie.Need-returns-5
-returns-5 c = let applied = c .before .before in let called = applied .before .before .before .before in let else3 = called .before .before .before in let told = else3 .before in let then1 = told .before .before .before .before .before in let args = then1 .before .before .before .before .args in let log = args .log .now in let at = args .at in let b = told .before .head2 .given .0 .0 in let k = told .before .head2 .given .0 .1 .0 in let p = told .before .head2 .given .0 .1 .1 .0 in let f = facts then1 in let t = there told in let a = pageStart (args .n) b in let size : a + 4096 - a ≡ 4096 = omega arith in let tag-set = set (args .image .now) b (fullTag (args .hash)) in let ws = diffAt log at in let ns = nodesFrom log (at + 49) k in let el = block 8 log (at + 49 + 32 * k) in let id = block 32 log (at + 1) in let inside : bucketOf (updateOf log at) < args .n = subst (λ (x : ℕ). x < args .n) (sym (there-bucket log at b k p t)) (else3 .if3 .left) in let s = step-taken (args .n) (args .image .now) log at (args .hash) (fits then1) (updateOf log at) p (t .here) inside in let after : applied .apply-page .last .0 ≡ pageAfter id ws ns el (take 4096 (drop a tag-set)) = applied .apply-page .ensures ∙ ap₂ (λ (m : ℕ) (l : List ℕ). pageAfter id ws ns el (take m (drop a l))) size (tagged called) in (ap given (updated-there log at p) ∙ s .0, ap₂ (λ (l m : List ℕ). putMid a (a + 4096 - a) l m) (tagged called) after ∙ part-put a (a + 4096) tag-set (pageAfter id ws ns el (take 4096 (drop a tag-set))) (omega arith) (omega (arith, page-fits else3, length-set (args .image .now) b (fullTag (args .hash)))) (tabulate-length (λ o. cond (pageNamed ws o) (pageGives id ws ns el o) (getD (take 4096 (drop a tag-set)) o 0)) 4096 ∙ sym size) ∙ update-image (args .n) id ws ns el b (args .hash) (args .image .now) (f .2) (else3 .if3 .left) ∙ ap (λ (e : Entry). stepped (args .n) (record { entry = e; hash = args .hash }) (args .image .now)) (sym (there-entry log at b k p t)) ∙ s .1)
+returns-5 c = let applied = c .before .before in let called = applied .before .before .before .before in let else3 = called .before .before .before in let told = else3 .before in let then1 = told .before .before .before .before .before in let args = then1 .before .before .before .before .args in let log = args .log .now in let at = args .at in let b = told .before .head2 .given .0 .0 in let k = told .before .head2 .given .0 .1 .0 in let p = told .before .head2 .given .0 .1 .1 .0 in let f = facts then1 in let t = there told in let a = pageStart (args .n) b in let size : a + 4096 - a ≡ 4096 = omega arith in let tag-set = set (args .image .now) b (fullTag (args .hash)) in let ws = diffAt log (at + 1) in let ns = nodesFrom log (at + 1 + 48) k in let el = block 8 log (at + 1 + 48 + 32 * k) in let id = block 32 log (at + 1) in let inside : bucketOf (updateOf log (at + 1)) < args .n = subst (λ (x : ℕ). x < args .n) (sym (there-bucket log at b k p t)) (else3 .if3 .left) in let s = step-taken (args .n) (args .image .now) log at (args .hash) (fits then1) (updateOf log (at + 1)) p (t .here) inside in let after : applied .apply-page .last .0 ≡ pageAfter id ws ns el (take 4096 (drop a tag-set)) = applied .apply-page .ensures ∙ ap₂ (λ (m : ℕ) (l : List ℕ). pageAfter id ws ns el (take m (drop a l))) size (tagged called) in (ap given (updated-there log at p) ∙ s .0, ap₂ (λ (l m : List ℕ). putMid a (a + 4096 - a) l m) (tagged called) after ∙ part-put a (a + 4096) tag-set (pageAfter id ws ns el (take 4096 (drop a tag-set))) (omega arith) (omega (arith, page-fits else3, length-set (args .image .now) b (fullTag (args .hash)))) (tabulate-length (λ o. cond (pageNamed ws o) (pageGives id ws ns el o) (getD (take 4096 (drop a tag-set)) o 0)) 4096 ∙ sym size) ∙ update-image (args .n) id ws ns el b (args .hash) (args .image .now) (f .2) (else3 .if3 .left) ∙ ap (λ (e : Entry). stepped (args .n) (record { entry = e; hash = args .hash }) (args .image .now)) (sym (there-entry log at b k p t)) ∙ s .1)
 
 returns-6 : tie.Need-returns-6
 returns-6 c = let args = c .before .before .before .before .args in step-unfit (args .n) (args .image .now) (args .log .now) (args .at) (args .hash) (sym (c .before .image-fits .ensures) ∙ c .if1 .left)
@@ -189,6 +192,7 @@ apply-entry-spec =
     add-a-2
     mul-a
     add-e
+    add-body
     sub-apply-page
     part-apply-page-start
     part-apply-page-end

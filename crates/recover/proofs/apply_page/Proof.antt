@@ -20,12 +20,12 @@ use Rattle.recover.proofs.apply_page.Statement.{statement}
 use Rattle.recover.proofs.apply_page.Tie as tie
 
 -- the diff that is read is the one that stands in the log
-diff-is : (c : tie.After-d) → c .before .from-bytes .result .diff .words ≡ diffAt (c .before .before .before .before .before .args .log .now) (c .before .before .before .before .before .args .at)
+diff-is : (c : tie.After-d) → c .before .from-bytes .result .diff .words ≡ diffAt (c .before .before .before .before .before .args .log .now) (c .before .before .before .before .before .args .body)
 diff-is c =
     let read = c .before in
     let start = read .before .before .before .before in
     read .from-bytes .ensures .1 ∙ ap readWords (read .before .block-16 .ensures)
-    ∙ read-words (block 16 (start .args .log .now) (start .args .at + 33)) (start .pre .1)
+    ∙ read-words (block 16 (start .args .log .now) (start .args .body + 32)) (start .pre .1)
 
 add-block-16 : tie.Need-add-block-16
 add-block-16 c = search needs
@@ -54,9 +54,6 @@ add-block-8-2 c = search needs
 block-8-requires : tie.Need-block-8-requires
 block-8-requires c κs = search needs
 
-add-block-32 : tie.Need-add-block-32
-add-block-32 c = search needs
-
 block-32-requires : tie.Need-block-32-requires
 block-32-requires c κs = search needs
 
@@ -76,7 +73,7 @@ same-length : tie.Need-same-length
 same-length c = search needs
 
 returns : tie.Need-returns
-returns c = let label = c .before .before in let ids = label .before .before in let els = ids .before in let slots = els .before .before .before in let start = slots .before .before .before .before .before .before .before in let args = start .args in let log = args .log .now in let at = args .at in let k = args .count in let page = args .page .now in let e = diff-is (slots .before .before) in let el = els .block-8 .result in let id = ids .block-32 .result in let page1 : slots .write-slots .last .0 ≡ tabulate (unpackedByte (diffAt log at) (nodesFrom log (at + 49) k) page) 4096 = slots .write-slots .ensures ∙ ap (λ (ws : List ℕ). tabulate (unpackedByte ws (nodesFrom log (at + 49) (countOf ws)) page) 4096) e ∙ ap (λ (n : ℕ). tabulate (unpackedByte (diffAt log at) (nodesFrom log (at + 49) n) page) 4096) (sym (start .pre .2)) in let long : length (el ++ id) ≡ 40 = omega (arith, length-append el id, label .write-label .ensures .1, label .write-label .ensures .2) in ap₂ (λ (l m : List ℕ). putMid 4056 40 l m) page1 (label .write-label .ensures .0) ∙ part-put 4056 4096 (tabulate (unpackedByte (diffAt log at) (nodesFrom log (at + 49) k) page) 4096) (el ++ id) (omega arith) (omega (arith, tabulate-length (unpackedByte (diffAt log at) (nodesFrom log (at + 49) k) page) 4096)) long ∙ page-done id (diffAt log at) (nodesFrom log (at + 49) k) el page (label .write-label .ensures .1) (label .write-label .ensures .2) ∙ ap₂ (λ (x y : List ℕ). pageAfter x (diffAt log at) (nodesFrom log (at + 49) k) y page) (ids .block-32 .ensures) (els .block-8 .ensures)
+returns c = let label = c .before .before in let ids = label .before .before in let els = ids .before in let slots = els .before .before .before in let start = slots .before .before .before .before .before .before .before in let args = start .args in let log = args .log .now in let at = args .body in let k = args .count in let page = args .page .now in let e = diff-is (slots .before .before) in let el = els .block-8 .result in let id = ids .block-32 .result in let page1 : slots .write-slots .last .0 ≡ tabulate (unpackedByte (diffAt log at) (nodesFrom log (at + 48) k) page) 4096 = slots .write-slots .ensures ∙ ap (λ (ws : List ℕ). tabulate (unpackedByte ws (nodesFrom log (at + 48) (countOf ws)) page) 4096) e ∙ ap (λ (n : ℕ). tabulate (unpackedByte (diffAt log at) (nodesFrom log (at + 48) n) page) 4096) (sym (start .pre .2)) in let long : length (el ++ id) ≡ 40 = omega (arith, length-append el id, label .write-label .ensures .1, label .write-label .ensures .2) in ap₂ (λ (l m : List ℕ). putMid 4056 40 l m) page1 (label .write-label .ensures .0) ∙ part-put 4056 4096 (tabulate (unpackedByte (diffAt log at) (nodesFrom log (at + 48) k) page) 4096) (el ++ id) (omega arith) (omega (arith, tabulate-length (unpackedByte (diffAt log at) (nodesFrom log (at + 48) k) page) 4096)) long ∙ page-done id (diffAt log at) (nodesFrom log (at + 48) k) el page (label .write-label .ensures .1) (label .write-label .ensures .2) ∙ ap₂ (λ (x y : List ℕ). pageAfter x (diffAt log at) (nodesFrom log (at + 48) k) y page) (ids .block-32 .ensures) (els .block-8 .ensures)
 
 pub apply-page-spec : {M : Type 1} → statement M
 apply-page-spec =
@@ -91,7 +88,6 @@ apply-page-spec =
     mul-block-8
     add-block-8-2
     block-8-requires
-    add-block-32
     block-32-requires
     sub-write-label
     part-write-label-start

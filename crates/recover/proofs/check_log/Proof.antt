@@ -56,7 +56,7 @@ returns-2 : tie.Need-returns-2 Inv-loop μ-loop
 returns-2 c = let stop = c .before in let read = stop .before .before in let at-loop = read .before in let args = at-loop .before .before .args in c .stopped-check .ensures ∙ sym (check-stop (args .n) (args .log .now) (at-loop .loop .at) (at-loop .loop .updates) (at-loop .loop .inv) (args .hashes) (read .head-at .result) (read .head-at .ensures) (stop .before .match .keys2) (stop .match2 .keys2))
 
 returns-3 : tie.Need-returns-3 Inv-loop μ-loop
-returns-3 c = let told = c .before in let at-loop = told .before .before .before .before .before in let args = at-loop .before .before .args in let t = there told in sym (check-outside (args .n) (args .log .now) (at-loop .loop .at) (at-loop .loop .updates) (at-loop .loop .inv) (args .hashes) (updateOf (args .log .now) (at-loop .loop .at)) (told .before .head2 .given .0 .1 .1 .0) (t .here) (subst (λ (b : ℕ). args .n ≤ b) (sym (there-bucket (args .log .now) (at-loop .loop .at) (told .before .head2 .given .0 .0) (told .before .head2 .given .0 .1 .0) (told .before .head2 .given .0 .1 .1 .0) t)) (c .if2 .taken)))
+returns-3 c = let told = c .before in let at-loop = told .before .before .before .before .before in let args = at-loop .before .before .args in let t = there told in sym (check-outside (args .n) (args .log .now) (at-loop .loop .at) (at-loop .loop .updates) (at-loop .loop .inv) (args .hashes) (updateOf (args .log .now) (at-loop .loop .at + 1)) (told .before .head2 .given .0 .1 .1 .0) (t .here) (subst (λ (b : ℕ). args .n ≤ b) (sym (there-bucket (args .log .now) (at-loop .loop .at) (told .before .head2 .given .0 .0) (told .before .head2 .given .0 .1 .0) (told .before .head2 .given .0 .1 .1 .0) t)) (c .if2 .taken)))
 
 add-updates : tie.Need-add-updates Inv-loop μ-loop
 add-updates c = let told = c .before in let at-loop = told .before .before .before .before .before in let t = there told in omega (arith, t .within, at-loop .loop .inv .few)
@@ -65,7 +65,7 @@ loop-less-2 : tie.Need-loop-less-2 Inv-loop μ-loop
 loop-less-2 c = let told = c .before in let t = there told in omega (arith, t .within, t .after)
 
 loop-again-2 : tie.Need-loop-again-2 Inv-loop μ-loop
-loop-again-2 c = let told = c .before in let at-loop = told .before .before .before .before .before in let args = at-loop .before .before .args in let t = there told in let log = args .log .now in let at = at-loop .loop .at in let p = told .before .head2 .given .0 .1 .1 .0 in subst (λ (k : ℕ). CheckState (args .n) log p (at-loop .loop .updates + k)) (there-one log at) (check-entry (args .n) log at (at-loop .loop .updates) (at-loop .loop .inv) (updateOf log at) p (t .here) (subst (λ (b : ℕ). b < args .n) (sym (there-bucket log at (told .before .head2 .given .0 .0) (told .before .head2 .given .0 .1 .0) p t)) (c .if2 .left)) (omega (arith, t .after)))
+loop-again-2 c = let told = c .before in let at-loop = told .before .before .before .before .before in let args = at-loop .before .before .args in let t = there told in let log = args .log .now in let at = at-loop .loop .at in let p = told .before .head2 .given .0 .1 .1 .0 in subst (λ (k : ℕ). CheckState (args .n) log p (at-loop .loop .updates + k)) (there-one log at) (check-entry (args .n) log at (at-loop .loop .updates) (at-loop .loop .inv) (updateOf log (at + 1)) p (t .here) (subst (λ (b : ℕ). b < args .n) (sym (there-bucket log at (told .before .head2 .given .0 .0) (told .before .head2 .given .0 .1 .0) p t)) (c .if2 .left)) (omega (arith, t .after)))
 
 pub check-log-spec : {M : Type 1} → statement M
 check-log-spec =

@@ -1,6 +1,6 @@
 -- A refusal is passed on; at the end the count decides. Assumes nothing.
 use Rattle.recover.proofs.Stops.{check-ended}
-use Rattle.recover.specs.Replay.{checkStop}
+use Rattle.recover.specs.InnerStops.{checkStop}
 use Rattle.wal_read.specs.declared.Head.{Head}
 use Rattle.wal_read.specs.Head.{headSaid}
 use borrow.Author.Tests.{eq-eqb, ne-eqb}

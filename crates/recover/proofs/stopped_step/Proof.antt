@@ -1,6 +1,6 @@
 -- A refusal is passed on; anything else is the end. Assumes nothing.
 use Rattle.recover.proofs.Stops.{step-ended}
-use Rattle.recover.specs.Replay.{stepStop}
+use Rattle.recover.specs.InnerStops.{stepStop}
 use Rattle.wal_read.specs.declared.Head.{Head}
 use Rattle.wal_read.specs.Head.{headSaid}
 use mathlib.Core.Path.{sym, ap, _∙_}

@@ -45,8 +45,8 @@ module _ (c : tie.After-known-told2) where
   there : There log at bucket count after
   there = head-update log at bucket count after (sym (ap headSaid (c .before .head2 .given .1)) ∙ c .before .before .before .head-at .ensures)
 
-add-block-32 : tie.Need-add-block-32
-add-block-32 c = omega (arith, there c)
+add-body : tie.Need-add-body
+add-body c = omega (arith, there c)
 
 block-32-requires : tie.Need-block-32-requires
 block-32-requires c κs = search needs
@@ -121,7 +121,7 @@ entry-at-spec =
     enum-known-head
     bare-requires
     enum-known-head-2
-    add-block-32
+    add-body
     block-32-requires
     diff-at-requires
     add-nodes-at

@@ -20,6 +20,9 @@ use Rattle.wal_read.proofs.head_at.Tie as tie
 returns : tie.Need-returns
 returns c = let args = c .before .before .args in sym (ap headOf (next-past (args .log .now) (args .at) (c .if1 .taken)))
 
+add-body : tie.Need-add-body
+add-body c = search needs
+
 sub-left : tie.Need-sub-left
 sub-left c = search needs
 
@@ -38,9 +41,6 @@ returns-3 c =
     let args = first .before .before .args in
     sym (ap headOf (next-clear-cut (args .log .now) (args .at) (first .if1 .left) (c .before .if3 .taken) (omega arith)))
 
-add-read-u64 : tie.Need-add-read-u64
-add-read-u64 c = search needs
-
 read-u64-requires : tie.Need-read-u64-requires
 read-u64-requires c κs = search needs
 
@@ -51,7 +51,7 @@ returns-4 : tie.Need-returns-4
 returns-4 c =
     let first = c .before .before .before .before .before in
     let args = first .before .before .args in
-    ap (λ (b : ℕ). aClear b (args .at + 9)) (c .read-u64 .ensures)
+    ap (λ (b : ℕ). aClear b (args .at + 1 + 8)) (c .read-u64 .ensures)
     ∙ sym (ap headOf (next-clear (args .log .now) (args .at) (first .if1 .left) (c .before .before .if3 .taken) (omega arith)))
 
 returns-5 : tie.Need-returns-5
@@ -77,7 +77,7 @@ returns-7 c =
     let read = c .before .before .before in
     let first = read .before .before .before .before .before .before in
     let args = first .before .before .args in
-    let said = read-refused (block 16 (args .log .now) (args .at + 33)) (numberOf (c .before .outcome .given .0 .0)) (sym (ap outcomeSaid (c .before .outcome .given .1)) ∙ read .diff-at .ensures .0) in
+    let said = read-refused (block 16 (args .log .now) (args .at + 1 + 32)) (numberOf (c .before .outcome .given .0 .0)) (sym (ap outcomeSaid (c .before .outcome .given .1)) ∙ read .diff-at .ensures .0) in
     ap aRefusal (said .1) ∙ sym (ap headOf (next-reserved (args .log .now) (args .at) (first .if1 .left) (read .before .before .if5 .left) (omega arith) (said .0)))
 
 enum-told : tie.Need-enum-told
@@ -94,11 +94,11 @@ module _ (c : tie.After-count) where
   abbrev at : ℕ
   at = c .before .before .before .before .before .before .before .before .before .before .before .args .at
 
-  plain : reserved (diffAt log at) ≡ false
-  plain = read-given (block 16 log (at + 33)) (sym (ap outcomeSaid (c .before .enum-told .given .1)) ∙ c .before .before .before .diff-at .ensures .0)
+  plain : reserved (diffAt log (at + 1)) ≡ false
+  plain = read-given (block 16 log (at + 1 + 32)) (sym (ap outcomeSaid (c .before .enum-told .given .1)) ∙ c .before .before .before .diff-at .ensures .0)
 
-  counted : c .count .result ≡ countOf (diffAt log at)
-  counted = c .count .ensures ∙ ap countOf (c .before .before .before .diff-at .ensures .1 ∙ read-words (block 16 log (at + 33)) plain)
+  counted : c .count .result ≡ countOf (diffAt log (at + 1))
+  counted = c .count .ensures ∙ ap countOf (c .before .before .before .diff-at .ensures .1 ∙ read-words (block 16 log (at + 1 + 32)) plain)
 
   inside : at < length log
   inside = c .before .before .before .before .before .before .before .before .before .if1 .left
@@ -107,7 +107,7 @@ module _ (c : tie.After-count) where
   tag = c .before .before .before .before .before .if5 .left
 
   few : c .count .result ≤ 126
-  few = omega (arith, counted, plain-count (diffAt log at) plain)
+  few = omega (arith, counted, plain-count (diffAt log (at + 1)) plain)
 
 mul-size : tie.Need-mul-size
 mul-size c = omega (arith, few c)
@@ -118,14 +118,14 @@ add-size c = omega (arith, few c)
 returns-8 : tie.Need-returns-8
 returns-8 c =
     let here = c .before in
-    let short : length (log here) < at here + (65 + 32 * countOf (diffAt (log here) (at here))) = omega (arith, counted here) in
+    let short : length (log here) < at here + 1 + (64 + 32 * countOf (diffAt (log here) (at here + 1))) = omega (arith, counted here) in
     sym (ap headOf (next-update-cut (log here) (at here) (inside here) (tag here) (omega arith) (plain here) short))
 
 sub-read-u64 : tie.Need-sub-read-u64
 sub-read-u64 c = search needs
 
-add-read-u64-2 : tie.Need-add-read-u64-2
-add-read-u64-2 c = search needs
+add-read-u64 : tie.Need-add-read-u64
+add-read-u64 c = search needs
 
 read-u64-requires-2 : tie.Need-read-u64-requires-2
 read-u64-requires-2 c κs = search needs
@@ -137,11 +137,11 @@ returns-9 : tie.Need-returns-9
 unfolding updateOf
 returns-9 c =
     let here = c .before .before in
-    let n : ℕ = countOf (diffAt (log here) (at here)) in
+    let n : ℕ = countOf (diffAt (log here) (at here + 1)) in
     let same : here .count .result ≡ n = counted here in
-    let there : at here + (65 + 32 * here .count .result - 8) ≡ at here + 57 + 32 * n = omega arith in
-    let whole : at here + (65 + 32 * n) ≤ length (log here) = omega arith in
-    ap₂ (λ (b k : ℕ). anUpdate b k (at here + (65 + 32 * k))) (c .read-u642 .ensures ∙ ap (λ (p : ℕ). le (block 8 (log here) p)) there) same
+    let there : at here + 1 + (64 + 32 * here .count .result - 8) ≡ at here + 1 + 56 + 32 * n = omega arith in
+    let whole : at here + 1 + (64 + 32 * n) ≤ length (log here) = omega arith in
+    ap₂ (λ (b k : ℕ). anUpdate b k (at here + 1 + (64 + 32 * k))) (c .read-u642 .ensures ∙ ap (λ (p : ℕ). le (block 8 (log here) p)) there) same
     ∙ sym (ap headOf (next-update (log here) (at here) (inside here) (tag here) (plain here) whole))
 
 pub head-at-spec : {M : Type 1} → statement M
@@ -149,11 +149,11 @@ head-at-spec =
     tie.close
     (tie.spec
     returns
+    add-body
     sub-left
     shared-slice-read-tag
     returns-2
     returns-3
-    add-read-u64
     read-u64-requires
     add-t19
     returns-4
@@ -168,7 +168,7 @@ head-at-spec =
     add-size
     returns-8
     sub-read-u64
-    add-read-u64-2
+    add-read-u64
     read-u64-requires-2
     add-t25
     returns-9)
