@@ -7,10 +7,10 @@ use Prim.Native.Nat.{ℕ, _+_, _-_, _^_, _<_}
 use native.Mathlib.Omega.{arith}
 use lib.ListN.{getD, replicate}
 use Rattle.answers.specs.Answers.{Answer, given, refused}
-use Rattle.blocks.specs.Blocks.{block}
+use Rattle.blocks.specs.Blocks.{block, flat}
 use Rattle.blocks.proofs.Laws.{tabulate-getD}
 use Rattle.page_diff.specs.Diff.{marked, wordOf, ofMarks, slotsBelow, slots, countOf, reserved, setAnswer, setWords, askAnswer, clearedWords, joined, firstSlot, withoutFirst, wordsOf, bytesOfWords, readAnswer, readWords}
-use Rattle.page_diff.specs.Pack.{tableOf, packedBy, packAnswer, packedOf, unpackAnswer, unpackedByte, unpackedPage}
+use Rattle.page_diff.specs.Pack.{tableOf, packedBy, packAnswer, packedOf, packIntoAnswer, packedInto, unpackAnswer, unpackedByte, unpackedPage}
 
 -- sixteen bytes, the last of which is b
 abbrev lastByte : ℕ → List ℕ
@@ -91,3 +91,16 @@ unpacked = (
   six (unpacked-at 31 (omega arith)) (unpacked-at 32 (omega arith)) (unpacked-at 64 (omega arith)) (unpacked-at 4000 (omega arith)) (unpacked-at 4032 (omega arith)) (unpacked-at 4095 (omega arith)),
   refl,
 )
+
+-- packing into lent memory: "page length 2, 4", then 2 for that memory; the count, and the table node after node
+abbrev twos : List ℕ
+twos = replicate 4096 2
+
+pub packs-into : packIntoAnswer (0 ∷ (2 ^ 62) ∷ []) [] (replicate 4032 6) ∷ packIntoAnswer (0 ∷ (2 ^ 62) ∷ []) twos [] ∷ packIntoAnswer (1 ∷ 0 ∷ []) twos [] ∷ packIntoAnswer (1 ∷ 0 ∷ []) twos (replicate 4032 6) ∷ []
+    ≡ refused 2 ∷ refused 4 ∷ refused 2 ∷ given 1 ∷ []
+unfolding packIntoAnswer marked slotsBelow
+packs-into = refl
+
+pub packed-into : packedInto (1 ∷ 0 ∷ []) twos (replicate 4032 6) ∷ packedInto (1 ∷ 0 ∷ []) twos (6 ∷ []) ∷ [] ≡ (replicate 32 2 ++ replicate 4000 0) ∷ (6 ∷ []) ∷ []
+unfolding packIntoAnswer tableOf flat block marked slotsBelow
+packed-into = refl

@@ -21,7 +21,7 @@ use Rattle.wal.specs.Reader.{Reading, startOf, nextAt, readIn, readBy}
 use Rattle.wal.specs.Run.{logOf}
 use Rattle.wal.proofs.RoundTrip.{AllWellFormed, none, more, log-length, start-back, entries-back}
 use Rattle.recover.specs.Places.{Step, withHashes, names, gives, replayed, valueAt, namedIn, entryNames, entryGives}
-use Rattle.recover.specs.Replay.{Did, nothing, stale, applied, allInside, updatesIn, checkAnswer, replayAnswer, replayImage, stepsOf, Went, cleared, updated, atEnd, stepAnswer, stepImage, steppedSaid, recoveredSaid, OnlyNamed}
+use Rattle.recover.specs.Replay.{Did, nothing, stale, applied, allInside, updatesIn, checkAnswer, replayTests, replayAnswer, replayImage, stepsOf, Went, cleared, updated, atEnd, stepAnswer, stepImage, steppedSaid, recoveredSaid, OnlyNamed}
 use Rattle.recover.specs.Calls.{calls, Cut, uncut, cut-inside}
 use Rattle.recover.proofs.Acceptance.{replay-accepts, replay-applies, stale-leaves}
 use Rattle.recover.proofs.Cuts.{calls-make, cut-stopped}
@@ -57,7 +57,7 @@ pub answers : (replayAnswer 0 [] [] 7 [] ∷ replayAnswer 1 (replicate 8191 0) [
     ∷ (replay (page (aClear 0)) 7 (0 ∷ []) ∷ replay (page anUpdate) 7 [] ∷ replay (page anUpdate) 7 (0 ∷ []) ∷ replay (page (aClear 0)) 7 [] ∷ replay (page (2 ∷ [])) 7 [] ∷ []) ∷ []
     ≡ (refused 1 ∷ refused 1 ∷ given nothing ∷ refused 5 ∷ refused 7 ∷ given stale ∷ []) ∷ (refused 8 ∷ refused 4 ∷ refused 6 ∷ refused 9 ∷ [])
     ∷ (refused 2 ∷ refused 2 ∷ given applied ∷ given applied ∷ given applied ∷ []) ∷ []
-unfolding replayAnswer startOf checkAnswer allInside updatesIn readBy nextAt block marked slotsBelow
+unfolding replayTests startOf checkAnswer allInside updatesIn readBy nextAt block marked slotsBelow
 answers = refl
 
 -- the step: 1, 6, 8, 4, 9; a clear, an update and the end

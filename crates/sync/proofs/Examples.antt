@@ -17,7 +17,7 @@ use Rattle.wal.specs.Run.{logOf}
 use Rattle.wal.specs.Writer.{beginAnswer, finishAnswer}
 use Rattle.wal.specs.declared.Writer.the-variants.{Fresh, Open, Finished}
 use Rattle.recover.specs.Places.{withHashes}
-use Rattle.recover.specs.Replay.{applied, allInside, updatesIn, checkAnswer, replayAnswer, replayImage, stepsOf, stepImage}
+use Rattle.recover.specs.Replay.{applied, allInside, updatesIn, checkAnswer, replayTests, replayAnswer, replayImage, stepsOf, stepImage}
 use Rattle.sync.proofs.Labels.{Labelled, elsewhere, step-labelled, replay-labelled}
 use Rattle.sync.specs.Change.{Mem, memOf, whereOf, placeOf, cleared, effectOf, memBy, stateOf, stateBy, pageNumber, takenSaid}
 use Rattle.sync.specs.Sync.{changeAt, changeMem, allOf, memAll, through, refusedAt, walkSaid, beforeChanges, saidDone, saidRefused, saidRefusedAt, syncSays, syncMem, syncWriter, syncedSaid}
@@ -178,7 +178,7 @@ abbrev labelLog : List ℕ
 labelLog = logOf 7 (clear 0 ∷ update0 ∷ [])
 
 accepted : replayAnswer 1 (replicate 8192 0) labelLog 7 (0 ∷ []) ≡ given applied
-unfolding replayAnswer startOf checkAnswer allInside updatesIn readBy nextAt block marked slotsBelow recordsOf recordOf flat
+unfolding replayTests startOf checkAnswer allInside updatesIn readBy nextAt block marked slotsBelow recordsOf recordOf flat
 accepted = refl
 
 its-steps : stepsOf labelLog (0 ∷ []) ≡ record { entry = clear 0; hash = 0 } ∷ record { entry = update0; hash = 0 } ∷ []

@@ -10,14 +10,13 @@ use borrow.Author.Tests.{le-leb, lt-leb}
 use Rattle.answers.specs.Answers.{Answer, given, refused, accepted}
 use Rattle.blocks.specs.Blocks.{block, put, flat}
 use Rattle.page_diff.specs.Diff.{marked, slotsBelow}
-use Rattle.page_diff.specs.Pack.{tableOf}
 use Rattle.wal.specs.Log.{clear, recordOf, startRecord}
 use Rattle.wal.specs.Writer.{capacity, position, beginAnswer, beginWriter, beginLog, clearAnswer, updateAnswer}
 use Rattle.wal.specs.declared.Writer.{Writer}
 use Rattle.wal.specs.declared.Writer.the-variants.{Fresh, Open, Finished}
 use Rattle.wal.proofs.Examples.{slice}
 use Rattle.wal.proofs.RoundTrip.{same-capacity}
-use Rattle.wal_write.specs.Calls.{roomIn, clearWriter, clearLog, updateWriter, updateLog, pageUpdateAnswer, pageUpdateWriter, pageUpdateLog, packIntoAnswer, packedInto}
+use Rattle.wal_write.specs.Calls.{roomIn, clearWriter, clearLog, updateWriter, updateLog, pageUpdateAnswer, pageUpdateWriter, pageUpdateLog}
 use Rattle.wal_write.proofs.CallLaws.{begin-given, clear-tests, taken, no-room}
 use Rattle.wal_write.proofs.WriterLaws.{same-length}
 
@@ -126,13 +125,3 @@ pub logs : clearLog (slice 4096) (Open 5) 0x0201 ∷ updateLog (slice 4096) (Ope
     ∷ at5 (4 ∷ (replicate 32 1 ++ (1 ∷ (replicate 15 0 ++ (replicate 32 2 ++ (replicate 8 4 ++ (1 ∷ 2 ∷ replicate 6 0))))))) 3994 ∷ slice 4096 ∷ []
 unfolding clearAnswer updateAnswer pageUpdateAnswer marked slotsBelow put recordOf flat block
 logs = refl
-
--- packing into lent memory: "page length 2, 4", then 2 for that memory; the count, and the table node after node
-pub packs : packIntoAnswer (0 ∷ (2 ^ 62) ∷ []) [] (replicate 4032 6) ∷ packIntoAnswer (0 ∷ (2 ^ 62) ∷ []) page [] ∷ packIntoAnswer (1 ∷ 0 ∷ []) page [] ∷ packIntoAnswer (1 ∷ 0 ∷ []) page (replicate 4032 6) ∷ []
-    ≡ refused 2 ∷ refused 4 ∷ refused 2 ∷ given 1 ∷ []
-unfolding packIntoAnswer marked slotsBelow
-packs = refl
-
-pub packed-into : packedInto (1 ∷ 0 ∷ []) page (replicate 4032 6) ∷ packedInto (1 ∷ 0 ∷ []) page (6 ∷ []) ∷ [] ≡ (replicate 32 2 ++ replicate 4000 0) ∷ (6 ∷ []) ∷ []
-unfolding packIntoAnswer tableOf flat block marked slotsBelow
-packed-into = refl
