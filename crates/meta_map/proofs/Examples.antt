@@ -1,4 +1,4 @@
--- 01, 'Tags': a byte's kind, the full tags of 01's four hashes, and what the calls on lent tags answer, each refusal
+-- 01, 'Tags': a byte's kind, the full tags of some hashes, and what the calls on lent tags answer, each refusal
 -- with its number, in literals. Assumes nothing.
 use mathlib.Core.Path.{_≡_, refl}
 use mathlib.Core.Bool.{true, false}
@@ -16,8 +16,8 @@ pub told : map (λ k. map (isKind k) (empty ∷ tombstone ∷ full ∷ other ∷
     ≡ (true ∷ false ∷ false ∷ false ∷ []) ∷ (false ∷ true ∷ false ∷ false ∷ []) ∷ (false ∷ false ∷ true ∷ false ∷ []) ∷ (false ∷ false ∷ false ∷ true ∷ []) ∷ []
 told = refl
 
--- "hash 0 and 2^57-1: tag 0x80; 2^57: 0x81; 2^64-1: 0xFF"
-pub full-tags : map fullTag (0 ∷ (2 ^ 57 - 1) ∷ (2 ^ 57) ∷ (2 ^ 64 - 1) ∷ []) ≡ 0x80 ∷ 0x80 ∷ 0x81 ∷ 0xFF ∷ []
+-- "full tag = 128 + floor(hash / 2^57)"
+pub full-tags : map fullTag (5 ∷ (2 ^ 58 - 1) ∷ (2 ^ 58) ∷ (2 ^ 63) ∷ []) ≡ 0x80 ∷ 0x81 ∷ 0x82 ∷ 0xC0 ∷ []
 full-tags = refl
 
 -- the tags of three buckets, and a byte in the padding

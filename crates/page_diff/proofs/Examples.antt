@@ -1,4 +1,4 @@
--- 01, 'Diff' and 'Checked by hand': what each call on a diff, pack and unpack answer, each refusal with its number, in
+-- 01, 'Diff': what each call on a diff, pack and unpack answer, each refusal with its number, in
 -- literals. Assumes nothing.
 use mathlib.Core.Path.{_≡_, refl}
 use mathlib.Core.Bool.{true, false}
@@ -6,7 +6,7 @@ use mathlib.Core.List.{List, [], _∷_, _++_, map}
 use Prim.Native.Nat.{ℕ, _+_, _-_, _^_, _<_}
 use native.Mathlib.Omega.{arith}
 use lib.ListN.{getD, replicate}
-use Rattle.answers.specs.Answers.{Answer, given, refused}
+use Rattle.answers.specs.Answers.{given, refused}
 use Rattle.blocks.specs.Blocks.{block, flat}
 use Rattle.blocks.proofs.Laws.{tabulate-getD}
 use Rattle.page_diff.specs.Diff.{marked, wordOf, ofMarks, slotsBelow, slots, countOf, reserved, setAnswer, setWords, askAnswer, clearedWords, joined, firstSlot, withoutFirst, wordsOf, bytesOfWords, readAnswer, readWords}
@@ -16,14 +16,11 @@ use Rattle.page_diff.specs.Pack.{tableOf, packedBy, packAnswer, packedOf
 abbrev lastByte : ℕ → List ℕ
 lastByte b = replicate 15 0 ++ (b ∷ [])
 
--- what reading them answers, the slots that are then marked, and their count
-abbrev reading : ℕ → Answer (Unit {0}) × List ℕ × ℕ
-reading b = (readAnswer (lastByte b), slots (readWords (lastByte b)), countOf (readWords (lastByte b)))
-
--- "diff byte 15 = 0x20, others 0: slot 125, count 1; 0x40 or 0x80: 4"
-pub read-by-hand : map reading (0x20 ∷ 0x40 ∷ 0x80 ∷ []) ≡ (given tt, 125 ∷ [], 1) ∷ (refused 4, [], 0) ∷ (refused 4, [], 0) ∷ []
-unfolding slotsBelow marked
-read-by-hand = refl
+-- "Reading refuses bit 126 or 127": what it answers, and the words that are then read
+pub reads : (map readAnswer (lastByte 0x3F ∷ lastByte 0x60 ∷ lastByte 0xA0 ∷ []) ≡ given tt ∷ refused 4 ∷ refused 4 ∷ [])
+    × (map readWords (lastByte 0x3F ∷ lastByte 0x60 ∷ lastByte 0xA0 ∷ []) ≡ (0 ∷ 0x3F00000000000000 ∷ []) ∷ (0 ∷ 0 ∷ []) ∷ (0 ∷ 0 ∷ []) ∷ [])
+unfolding marked
+reads = (refl, refl)
 
 -- "two 64-bit words, little-endian in 16 bytes"
 abbrev sixteen : List ℕ

@@ -2,12 +2,12 @@
 -- which a page is stored and found. Assumes nothing.
 use mathlib.Core.Path.{_≡_, refl}
 use mathlib.Core.List.{List, [], _∷_, _++_, map}
-use Prim.Native.Nat.{ℕ, zero, suc, _<_}
+use Prim.Native.Nat.{ℕ, zero, suc, _^_, _<_}
 use native.Mathlib.Omega.{arith}
 use lib.ListN.{getD, replicate}
-use Rattle.answers.specs.Answers.{given, refused}
+use Rattle.answers.specs.Answers.{Answer, given, refused}
 use Rattle.answers.specs.declared.Refusal.the-variants.{TableUnfit, PathCrowded, PathClosed}
-use Rattle.probe.specs.Path.{visits, hitLimit, allocating, probing, lookingUp, emptyAt, tombstoneAt, hitAt, closed, pageEnd, probeAnswer, allocateAnswer, allocatedTags, lookupAnswer, foundAt, absent, unreached, probedSaid, foundSaid, allocatedSaid}
+use Rattle.probe.specs.Path.{hitLimit, allocating, probing, lookingUp, emptyAt, tombstoneAt, hitAt, closed, pageEnd, probeAnswer, allocateAnswer, allocatedTags, lookupAnswer, foundAt, absent, unreached, probedSaid, foundSaid, allocatedSaid}
 use Rattle.probe.specs.declared.Probed.the-variants as probed
 use Rattle.probe.specs.declared.Found.the-variants as found
 use Rattle.probe.specs.declared.Allocated.the-variants as allocated
@@ -20,10 +20,14 @@ tags2 a b = a ∷ b ∷ replicate 4094 0
 abbrev tags3 : ℕ → ℕ → ℕ → List ℕ
 tags3 a b c = a ∷ b ∷ c ∷ replicate 4093 0
 
--- "n=8, hash 8: path 0 1 3 6 2 7 5 4"; "n=5, hash 5: 0 1 3 1 0"
-pub paths : visits 8 8 0 8 ∷ visits 5 5 0 5 ∷ [] ≡ (0 ∷ 1 ∷ 3 ∷ 6 ∷ 2 ∷ 7 ∷ 5 ∷ 4 ∷ []) ∷ (0 ∷ 1 ∷ 3 ∷ 1 ∷ 0 ∷ []) ∷ []
-unfolding visits
-paths = refl
+-- "(hash + k(k+1)/2) mod n": hash 9 in six buckets that are all hits
+abbrev hits6 : List ℕ
+hits6 = replicate 6 0x80 ++ replicate 4090 0
+
+pub path : map (probeAnswer hits6 6 9) (0 ∷ 1 ∷ 2 ∷ 3 ∷ 4 ∷ 5 ∷ [])
+    ≡ given (hitAt 3 0) ∷ given (hitAt 4 1) ∷ given (hitAt 0 2) ∷ given (hitAt 3 3) ∷ given (hitAt 1 4) ∷ given (hitAt 0 5) ∷ []
+unfolding probing
+path = refl
 
 -- hash 0 in two buckets: from visit 0 on; from visit 1 on, where "the path goes 1, 1, 0"; visit 5 taken mod 4; and
 -- another table's tags
@@ -34,10 +38,14 @@ pub probes : probeAnswer (tags2 0x00 0x80) 2 0 0 ∷ probeAnswer (tags2 0x7F 0x8
 unfolding probing
 probes = refl
 
--- hash 0 in three buckets, whose path is 0 1 0 0 1 0: bucket 2 is never met; hits up to the limit, and one more
-pub allocations : map (λ ts. allocateAnswer hitLimit ts 3 0) (tags3 0x00 0x80 0x80 ∷ tags3 0x81 0x7F 0x00 ∷ tags3 0x80 0x81 0x00 ∷ tags3 0x81 0x81 0x00 ∷ [])
-    ∷ (allocateAnswer 1 (tags3 0x80 0x00 0x00) 3 0 ∷ allocateAnswer 0 (tags3 0x80 0x00 0x00) 3 0 ∷ allocateAnswer hitLimit (tags3 0x00 0x00 0x00) 0 0 ∷ given hitLimit ∷ []) ∷ []
-    ≡ (given 0 ∷ given 1 ∷ refused 10 ∷ refused 11 ∷ []) ∷ (given 1 ∷ refused 10 ∷ refused 1 ∷ given 9998 ∷ []) ∷ []
+-- hash 2^57, whose tag is 81, in three buckets: its path is 2 0 2 2 0 2, and bucket 1 is never met; hits up to the limit,
+-- and one more
+abbrev allocate3 : ℕ → ℕ → ℕ → ℕ → Answer ℕ
+allocate3 limit a b c = allocateAnswer limit (tags3 a b c) 3 (2 ^ 57)
+
+pub allocations : (allocate3 hitLimit 0x81 0x81 0x00 ∷ allocate3 hitLimit 0x7F 0x81 0x81 ∷ allocate3 hitLimit 0x80 0x00 0x81 ∷ allocate3 hitLimit 0x80 0x00 0x01 ∷ [])
+    ∷ (allocate3 1 0x00 0x00 0x81 ∷ allocate3 0 0x00 0x00 0x81 ∷ allocateAnswer hitLimit (tags3 0x00 0x00 0x00) 0 0 ∷ given hitLimit ∷ []) ∷ []
+    ≡ (given 2 ∷ given 0 ∷ refused 10 ∷ refused 11 ∷ []) ∷ (given 0 ∷ refused 10 ∷ refused 1 ∷ given 9998 ∷ []) ∷ []
 unfolding allocating
 allocations = refl
 

@@ -14,15 +14,11 @@ use Rattle.rehash.specs.declared.MarkerRead.the-variants as read
 use Rattle.rehash.specs.declared.Decision.the-variants as decision
 use Rattle.rehash.specs.declared.Grown.the-variants as grown
 
--- "marker 4 to 8: 4E 4F 4D 54 52 48 31 00 04 00 00 00 08 00 00 00; 8 to 8: 17"
-pub markers : (writtenMarker 4 8 ≡ 0x4E ∷ 0x4F ∷ 0x4D ∷ 0x54 ∷ 0x52 ∷ 0x48 ∷ 0x31 ∷ 0x00 ∷ 0x04 ∷ 0x00 ∷ 0x00 ∷ 0x00 ∷ 0x08 ∷ 0x00 ∷ 0x00 ∷ 0x00 ∷ [])
-    × (writeAnswer 4 8 ∷ writeAnswer 8 8 ∷ [] ≡ given tt ∷ refused 17 ∷ [])
-markers = (refl, refl)
-
--- a marker whose counts have all their bytes; written, and none written
-pub written : writtenMarker 0x04030201 0x08070605 ∷ writtenMarker 8 8 ∷ []
-    ≡ (0x4E ∷ 0x4F ∷ 0x4D ∷ 0x54 ∷ 0x52 ∷ 0x48 ∷ 0x31 ∷ 0x00 ∷ 0x01 ∷ 0x02 ∷ 0x03 ∷ 0x04 ∷ 0x05 ∷ 0x06 ∷ 0x07 ∷ 0x08 ∷ []) ∷ replicate 16 0 ∷ []
-written = refl
+-- a marker whose counts have all their bytes; written, and none written; "writing: 17"
+pub written : (writtenMarker 0x04030201 0x08070605 ∷ writtenMarker 9 8 ∷ []
+    ≡ (0x4E ∷ 0x4F ∷ 0x4D ∷ 0x54 ∷ 0x52 ∷ 0x48 ∷ 0x31 ∷ 0x00 ∷ 0x01 ∷ 0x02 ∷ 0x03 ∷ 0x04 ∷ 0x05 ∷ 0x06 ∷ 0x07 ∷ 0x08 ∷ []) ∷ replicate 16 0 ∷ [])
+    × (writeAnswer 0 1 ∷ writeAnswer 1 1 ∷ writeAnswer 9 8 ∷ [] ≡ given tt ∷ refused 17 ∷ refused 17 ∷ [])
+written = (refl, refl)
 
 abbrev counts : ℕ → ℕ → Counts
 counts o n = record { old = o; new = n }
