@@ -143,7 +143,7 @@ cut-well =
     more
     {e = update (replicate 32 1) (1 ∷ 0 ∷ []) cutNodes (replicate 8 2) 0}
     (record {
-      wide = record { id-long = refl; two-words = refl; low-word = omega arith; high-word = omega arith; elided-long = refl; bucket = omega arith };
+      wide = record { change = record { id-long = refl; two-words = refl; low-word = omega arith; high-word = omega arith }; elided-long = refl; bucket = omega arith };
       plain = refl;
       counted = refl;
       rows = rows;

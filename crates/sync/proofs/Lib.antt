@@ -1,6 +1,7 @@
 pub mod Accepted
 pub mod Again
 pub mod Examples
+pub mod Frame
 pub mod Labels
 pub mod LiveTags
 pub mod Logged
@@ -14,6 +15,7 @@ pub mod Shared
 pub mod StartLaws
 pub mod StepLaws
 pub mod SyncLaws
+pub mod TagKinds
 pub mod Untouched
 pub mod WalkLaws
 pub mod Widths

@@ -22,7 +22,7 @@ use Rattle.wal.specs.Reader.{Reading, startOf, readLog}
 use Rattle.wal.specs.Run.{Wide as WideUpdate, Run, begun, with-clear}
 use Rattle.wal.specs.Writer.{beginAnswer, beginLog, beginWriter, finishAnswer, finishLog}
 use Rattle.wal.specs.declared.Writer.{Writer}
-use Rattle.wal.specs.declared.Writer.the-variants.{Fresh, Open}
+use Rattle.wal.specs.declared.Writer.the-variants.{Fresh}
 use Rattle.wal.proofs.Writer as WriterT
 use Rattle.wal.proofs.RoundTrip.{run-made, finish-fits, round-trip-start, round-trip}
 use Rattle.wal_write.specs.Calls.{roomIn, clearWriter, pageUpdate, pageUpdateWriter}
@@ -60,10 +60,7 @@ module _ (log₀ : List ℕ) (sync : ℕ) (st : SyncState) (m : Mem) (page : Lis
   page-went b h long plain room =
       let k = page-taken w l ws page opened long plain room in
       let wide : WideUpdate (c .id) ws (block 8 page 4056) b = record {
-        id-long = sized .id-long;
-        two-words = sized .two-words;
-        low-word = sized .low-word;
-        high-word = sized .high-word;
+        change = sized;
         elided-long = block-length 8 page 4056;
         bucket = h;
       } in

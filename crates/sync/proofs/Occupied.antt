@@ -14,14 +14,14 @@ use Rattle.meta_map.specs.Tags.{Kind, empty, tombstone, full, other, isKind, ki
 use Rattle.meta_map.proofs.Laws.{full-tag-kind, count-set, count-le}
 use Rattle.probe.specs.Path.{isFree, allocating, allocateAnswer, hitLimit}
 use Rattle.probe.proofs.Promises.{AllocatedAt, allocated-bucket}
-use Rattle.page_diff.specs.Diff.{marked}
 use Rattle.wal.specs.Writer.{finishAnswer}
-use Rattle.sync.specs.Change.{whereOf, Mem, memOf, Named, bucket, none, namedBy, tagFits, Does, clears, updates, allocates, doesWith, byNamed, doesOf, Effect, cleared, updated, allocated, byBucket, afterDoes, effectOf, tagsIf, memBy, stateBy}
+use Rattle.sync.specs.Change.{Mem, memOf, doesOf, Effect, cleared, updated, allocated, effectOf, tagsIf, memBy, stateBy}
 use Rattle.sync.specs.Sync.{pageOf, Came, through, refusedAt, orRest, orMem, changeAt, changeMem, allOf, memAll, beforeChanges, startMem, startState, saidDone, saidFinish, saidBy, saidIf, keptIf, logAfter, came, left, syncSays, syncMem}
 use Rattle.sync.specs.declared.Change.{Change}
 use Rattle.sync.specs.declared.SyncState.{SyncState}
 use Rattle.sync.proofs.Accepted.{after-cleared, after-allocated, accepted-change}
-use Rattle.sync.proofs.Plans.{Told, as-clear, does-told, does-clears}
+use Rattle.sync.proofs.TagKinds.{kind-taken}
+use Rattle.sync.proofs.Plans.{does-clears}
 
 -- a bucket that is free is not full
 free-not-full : (k : Kind) → isKind empty k || isKind tombstone k ≡ true → isKind full k ≡ false
@@ -29,13 +29,6 @@ free-not-full empty h = refl
 free-not-full tombstone h = refl
 free-not-full full h = let z : _≡_ {A = ℕ} 0 1 = cc in absurd (omega arith)
 free-not-full other h = refl
-
--- a bucket that is to be cleared has a full tag
-cleared-full : (st : SyncState) (m : Mem) (c : Change) (b : ℕ) → doesOf (st .n) (m .tags) (m .cells) c ≡ given (clears b) → isKind full (kindOf (getD (m .tags) b 0)) ≡ true
-cleared-full st m c b e = go (does-told (st .n) (m .tags) (m .cells) c (clears b) e)
-  where
-    go : Told (st .n) (m .tags) (c .hash) (marked (c .diff .words) 127) (clears b) → isKind full (kindOf (getD (m .tags) b 0)) ≡ true
-    go (as-clear l s q) = q
 
 module _ (st : SyncState) (m : Mem) (page : List ℕ) (c : Change) where
   -- after a change, accepted or refused
@@ -47,7 +40,7 @@ module _ (st : SyncState) (m : Mem) (page : List ℕ) (c : Change) where
       let f = tags-fit-facts (st .n) (length (m .tags)) (a .0) in
       let d = after-cleared st m c (doesOf (st .n) (m .tags) (m .cells) c) b (a .2) .0 in
       let l = does-clears (st .n) (m .tags) (m .cells) c b d in
-      let k = cleared-full st m c b d in
+      let k = kind-taken st m page c (cleared b) h in
       omega (arith, count-set full (m .tags) b 0x7F (st .n) l (omega arith), ap one k)
   occupied-kept (given (allocated b)) h o =
       let a = accepted-change st m page c (allocated b) h in
@@ -55,7 +48,7 @@ module _ (st : SyncState) (m : Mem) (page : List ℕ) (c : Change) where
       let g = after-allocated st m c (doesOf (st .n) (m .tags) (m .cells) c) b (a .2) .2 in
       let r = allocated-bucket hitLimit (m .tags) (st .n) (c .hash) b (ap (λ (t : Bool). cond t (allocating hitLimit (m .tags) (st .n) (c .hash)) (refused 1)) (a .0) ∙ g) in
       let l : b < st .n = r .1 .below in
-      omega (arith, count-set full (m .tags) b (fullTag (c .hash)) (st .n) l (omega arith), ap one (free-not-full (kindOf (getD (m .tags) b 0)) (r .1 .was-free)), ap (λ (x : Kind). one (isKind full x)) (full-tag-kind (c .hash)), count-le full (m .tags) (st .n))
+      omega (arith, count-set full (m .tags) b (fullTag (c .hash)) (st .n) l (omega arith), ap one (free-not-full (kindOf (getD (m .tags) b 0)) (kind-taken st m page c (allocated b) h)), ap (λ (x : Kind). one (isKind full x)) (full-tag-kind (c .hash)), count-le full (m .tags) (st .n))
 
 -- after the changes, as far as they came
 abbrev Counts : List ℕ → List Change → Type 0

@@ -17,9 +17,9 @@ use Rattle.meta_map.specs.Tags.{fullTag}
 use Rattle.page_diff.specs.Diff.{marked, countOf}
 use Rattle.probe.specs.Path.{visits, pathFrom, hits, Stop, stopAt, nowhere, freeStop, noBucket, allocationSaw, allocating, hitLimit}
 use Rattle.wal.specs.Log.{recordOf, startRecord, startSize, finishedLength, clearSize, updateSize}
-use Rattle.wal.specs.Writer.{position, capacity, ifOpen, ifRoom, beginAnswer, beginLog, logBy, finishAnswer}
+use Rattle.wal.specs.Writer.{openAt, position, capacity, ifOpen, ifRoom, beginAnswer, beginLog, logBy, finishAnswer}
 use Rattle.wal.specs.declared.Writer.{Writer}
-use Rattle.wal.specs.declared.Writer.the-variants.{Fresh, Open, Finished}
+use Rattle.wal.specs.declared.Writer.the-variants.{Fresh}
 use Rattle.wal.proofs.RoundTrip.{same-capacity}
 use Rattle.sync.specs.Change.{Mem, memOf, Named, bucket, none, cellNames, whereOf, namedBy, tagFits, Does, clears, updates, allocates, doesWith, byNamed, doesOf, Effect, cleared, updated, allocated, byBucket, afterDoes, effectOf, entryBy, sizeBy, tagsBy, marksBy, memBy, stateBy}
 use Rattle.sync.specs.Sync.{pageOf, Came, through, refusedAt, CameTo, cameBy, orRest, orMem, changeAt, changeMem, allOf, memAll, beforeChanges, startMem, startState, SyncSaid, saidDone, saidRefused, saidRefusedAt, saidFinish, saidBy, saidIf, keptIf, logAfter, writerAfter, came, left, syncSays, syncMem, syncWriter}
@@ -33,7 +33,7 @@ use Rattle.sync.proofs.StartLaws.{page-there}
 
 -- the writer is open, with room for the end
 pub record Ready (w : Writer) (log : List ℕ) : Type 0 where
-  pub is-open : w ≡ Open (position w)
+  pub is-open : w ≡ openAt (position w)
   pub room : position w + 1 ≤ capacity log
 
 module _ (st : SyncState) (m : Mem) (page : List ℕ) (c : Change) where
@@ -216,7 +216,7 @@ module _ (st : SyncState) (m : Mem) (c : Change) (k : ℕ) where
 record Fit (st : SyncState) (m : Mem) : Type 0 where
   pub tags-fit : tagsFit (st .n) (length (m .tags)) ≡ true
   pub marks-fit : length (m .marks) ≡ tagPages (st .n)
-  pub is-open : st .writer ≡ Open (position (st .writer))
+  pub is-open : st .writer ≡ openAt (position (st .writer))
 
 module _ (st : SyncState) (m : Mem) (page : List ℕ) (c : Change) where
   tags-long : (e : Effect) → length (tagsBy e (c .hash) (m .tags)) ≡ length (m .tags)

@@ -22,9 +22,9 @@ use Rattle.answers.proofs.Laws.{given-refused, refused-one}
 use Rattle.ht_file.specs.Places.{tagsFit, tagPages}
 use Rattle.meta_map.specs.Tags.{full, countOf, ifTags}
 use Rattle.wal.specs.Log.{startRecord, startSize}
-use Rattle.wal.specs.Writer.{logBy, writerBy, beginAnswer, beginLog, beginWriter, finishAnswer, finishLog, finishWriter}
+use Rattle.wal.specs.Writer.{openAt, logBy, writerBy, beginAnswer, beginLog, beginWriter, finishAnswer, finishLog, finishWriter}
 use Rattle.wal.specs.declared.Writer.{Writer}
-use Rattle.wal.specs.declared.Writer.the-variants.{Fresh, Open}
+use Rattle.wal.specs.declared.Writer.the-variants.{Fresh}
 use Rattle.sync.specs.Change.{Mem, memOf, Effect, effectOf, memBy, stateBy, pageNumber, takenSaid}
 use Rattle.sync.specs.Sync.{pageOf, Came, through, refusedAt, cameBy, changeAt, changeMem, walkSaid, walkedSaid, beforeChanges, startMem, startState, startIf, keptIf, saidFinish, saidBy, logAfter, writerAfter}
 use Rattle.sync.specs.declared.Change.{Change}
@@ -126,8 +126,8 @@ module _ (l : List ℕ) (sync : ℕ) where
   pub begun-left : (j : ℕ) → beginAnswer l ≡ refused j → beginLog l sync ≡ l
   begun-left j h = ap (λ (a : Answer (Unit {0})). logBy a l 0 (startRecord sync)) h
 
-  pub begun-open : beginAnswer l ≡ given tt → beginWriter l Fresh ≡ Open startSize
-  begun-open h = ap (λ (a : Answer (Unit {0})). writerBy a Fresh (Open startSize)) h
+  pub begun-open : beginAnswer l ≡ given tt → beginWriter l Fresh ≡ openAt startSize
+  begun-open h = ap (λ (a : Answer (Unit {0})). writerBy a Fresh (openAt startSize)) h
 
 -- ---- the end, after all changes
 module _ (w : Walk) (o : OneOf (0 ∷ []) (tagOf WalkT.the-type w)) (st : SyncState) (l : List ℕ) where

@@ -1,21 +1,21 @@
 -- 01, 'Sync': what one change does. Assumes nothing.
 use mathlib.Core.Path.{_≡_}
-use mathlib.Core.Bool.{Bool, true, false, cond, _&&_}
+use mathlib.Core.Bool.{Bool, true, false, cond, _&&_, _||_}
 use mathlib.Core.List.{List, [], _∷_}
-use Prim.Native.Nat.{ℕ, _+_, _-_, _*_, _/_, _^_, _<_, min}
+use Prim.Native.Nat.{ℕ, _+_, _-_, _*_, _/_, _^_, min}
 use lib.Dec.{ltb, eqb}
 use lib.ListN.{length, getD, set}
 use Rattle.answers.specs.Answers.{Answer, given, refused}
 use Rattle.answers.specs.Refusals.{numberOf}
 use Rattle.blocks.specs.Blocks.{put}
 use Rattle.ht_file.specs.Places.{tagPages, tagsFit}
-use Rattle.meta_map.specs.Tags.{full, kindOf, isKind, fullTag}
+use Rattle.meta_map.specs.Tags.{Kind, empty, tombstone, full, kindOf, isKind, fullTag}
 use Rattle.page_diff.specs.Diff.{marked, countOf}
 use Rattle.probe.specs.Path.{allocating, hitLimit}
 use Rattle.wal.specs.Log.{Entry, clear, recordOf, clearSize, updateSize}
-use Rattle.wal.specs.Writer.{position, ifOpen, ifRoom}
+use Rattle.wal.specs.Run.{WideChange}
+use Rattle.wal.specs.Writer.{openAt, position, ifOpen, ifRoom}
 use Rattle.wal.specs.declared.Writer.{Writer}
-use Rattle.wal.specs.declared.Writer.the-variants.{Fresh, Open, Finished}
 use Rattle.sync.specs.declared.Change.{Change}
 use Rattle.sync.specs.declared.Where.{Where}
 use Rattle.sync.specs.declared.Place.{Place}
@@ -37,11 +37,8 @@ abbrev pub memOf : List ℕ → List ℕ → List ℕ → List ℕ → Mem
 memOf t k c l = record { tags = t; marks = k; cells = c; log = l }
 
 -- the widths of a change's parts, which their types give: "id 32, diff 16"
-pub record Wide (c : Change) : Type 0 where
-  pub id-long : length (c .id) ≡ 32
-  pub two-words : length (c .diff .words) ≡ 2
-  pub low-word : getD (c .diff .words) 0 0 < 2 ^ 64
-  pub high-word : getD (c .diff .words) 1 0 < 2 ^ 64
+abbrev pub Wide : Change → Type 0
+Wide c = WideChange (c .id) (c .diff .words)
 
 pub data AllWide : List Change → Type 0 where
   none-wide : AllWide []
@@ -106,6 +103,15 @@ abbrev pub bucketOf : Effect → ℕ
 bucketOf (cleared b) = b
 bucketOf (updated b) = b
 bucketOf (allocated b) = b
+
+-- the kind that the bucket's tag had before; and whether a kind is one that the effect takes
+abbrev pub kindBefore : Effect → List ℕ → Kind
+kindBefore e tags = kindOf (getD tags (bucketOf e) 0)
+
+abbrev pub kindTaken : Effect → Kind → Bool
+kindTaken (cleared b) k = isKind full k
+kindTaken (updated b) k = isKind full k
+kindTaken (allocated b) k = isKind empty k || isKind tombstone k
 
 abbrev pub byBucket : Answer ℕ → Answer Effect
 byBucket (given b) = given (allocated b)
@@ -198,7 +204,7 @@ stateOf n w o = record { n = n; writer = w; occupied = o }
 
 abbrev pub stateBy : Answer Effect → SyncState → Change → SyncState
 stateBy (refused k) st c = st
-stateBy (given e) st c = stateOf (st .n) (Open (position (st .writer) + sizeBy c e)) (occupiedBy e (st .occupied))
+stateBy (given e) st c = stateOf (st .n) (openAt (position (st .writer) + sizeBy c e)) (occupiedBy e (st .occupied))
 
 -- "Each step answers bucket and page number M+b"
 abbrev pub pageNumber : SyncState → Answer Effect → Answer (ℕ × ℕ)

@@ -11,9 +11,9 @@ use Rattle.ht_file.specs.Places.{tagPages, tagsFit}
 use Rattle.meta_map.specs.Tags.{full, countOf}
 use Rattle.page_diff.specs.Diff.{marked}
 use Rattle.wal.specs.Log.{Entry, startSize}
-use Rattle.wal.specs.Writer.{beginAnswer, beginLog, finishAnswer, finishLog, finishWriter}
+use Rattle.wal.specs.Writer.{openAt, beginAnswer, beginLog, finishAnswer, finishLog, finishWriter}
 use Rattle.wal.specs.declared.Writer.{Writer}
-use Rattle.wal.specs.declared.Writer.the-variants.{Fresh, Open, Finished}
+use Rattle.wal.specs.declared.Writer.the-variants.{Fresh}
 use Rattle.sync.specs.Change.{AllWide, Mem, memOf, Effect, effectOf, entryBy, memBy, stateBy}
 use Rattle.sync.specs.declared.Change.{Change}
 use Rattle.sync.specs.declared.SyncState.{SyncState}
@@ -108,7 +108,7 @@ abbrev pub startMem : Mem → ℕ → Mem
 startMem m sync = memOf (m .tags) (replicate (length (m .marks)) 0) (m .cells) (beginLog (m .log) sync)
 
 abbrev pub startState : ℕ → Mem → SyncState
-startState n m = record { n = n; writer = Open startSize; occupied = countOf full (m .tags) n }
+startState n m = record { n = n; writer = openAt startSize; occupied = countOf full (m .tags) n }
 
 -- what the whole sync says: occupied and the log's length; a refusal; or a refusal at change j
 pub data SyncSaid : Type 0 where

@@ -9,9 +9,9 @@ use Rattle.blocks.specs.Blocks.{block, put, flat}
 use Rattle.page_diff.specs.Diff.{marked, slotsBelow}
 use Rattle.wal.specs.Log.{Entry, clear, update, markSize, startRecord, startSize, recordOf, clearSize, updateSize, recordsOf, finishedLength, endRecord}
 use Rattle.wal.specs.Reader.{startOf, next, ended, stopped, nextAt, Reading, readIn, readBy, readLog}
-use Rattle.wal.specs.Writer.{beginAnswer, beginLog, beginWriter, clearAnswer, updateAnswer, recordLog, recordWriter, finishAnswer, finishLog, finishWriter}
+use Rattle.wal.specs.Writer.{openAt, beginAnswer, beginLog, beginWriter, clearAnswer, updateAnswer, recordLog, recordWriter, finishAnswer, finishLog, finishWriter}
 use Rattle.wal.specs.Run.{logOf}
-use Rattle.wal.specs.declared.Writer.the-variants.{Fresh, Open, Finished}
+use Rattle.wal.specs.declared.Writer.the-variants.{Fresh, Finished}
 
 -- an update of bucket 9 with slots 0 and 125 marked
 abbrev pub entry : Entry
@@ -72,24 +72,23 @@ read = refl
 abbrev pub slice : ℕ → List ℕ
 slice n = replicate n 6
 
--- "Begin works in any state and needs capacity 4,096"; a clear and an update taken exactly where position + size + 1
--- fits; "12, 2, 4, 13"
-pub writers : (map (λ n. beginAnswer (slice n)) (4095 ∷ 4096 ∷ 8191 ∷ []) ∷ map (clearAnswer (slice 8191)) (Fresh ∷ Finished 4096 ∷ Open 4086 ∷ Open 4087 ∷ [])
-    ∷ (updateAnswer (slice 4096) Fresh (1 ∷ 0 ∷ []) 2 ∷ updateAnswer (slice 4096) (Open 5) (1 ∷ (2 ^ 62) ∷ []) 1 ∷ updateAnswer (slice 4096) (Open 5) (1 ∷ (2 ^ 62) ∷ []) 2
-    ∷ updateAnswer (slice 4096) (Open 3998) (1 ∷ 0 ∷ []) 1 ∷ updateAnswer (slice 4096) (Open 3999) (1 ∷ 0 ∷ []) 1 ∷ []) ∷ []
+-- "Begin works in any state and needs capacity 4,096"; a clear and an update taken exactly where position + size + 1 fits; "12, 2, 4, 13"
+pub writers : (map (λ n. beginAnswer (slice n)) (4095 ∷ 4096 ∷ 8191 ∷ []) ∷ map (clearAnswer (slice 8191)) (Fresh ∷ Finished 4096 ∷ openAt 4086 ∷ openAt 4087 ∷ [])
+    ∷ (updateAnswer (slice 4096) Fresh (1 ∷ 0 ∷ []) 2 ∷ updateAnswer (slice 4096) (openAt 5) (1 ∷ (2 ^ 62) ∷ []) 1 ∷ updateAnswer (slice 4096) (openAt 5) (1 ∷ (2 ^ 62) ∷ []) 2
+    ∷ updateAnswer (slice 4096) (openAt 3998) (1 ∷ 0 ∷ []) 1 ∷ updateAnswer (slice 4096) (openAt 3999) (1 ∷ 0 ∷ []) 1 ∷ []) ∷ []
     ≡ (refused 13 ∷ given tt ∷ given tt ∷ []) ∷ (refused 12 ∷ refused 12 ∷ given tt ∷ refused 13 ∷ []) ∷ (refused 12 ∷ refused 2 ∷ refused 4 ∷ given tt ∷ refused 13 ∷ []) ∷ [])
-    × (map (finishAnswer (slice 4096)) (Fresh ∷ Finished 4096 ∷ Open 5 ∷ Open 4095 ∷ Open 4096 ∷ []) ≡ refused 12 ∷ refused 12 ∷ given 4096 ∷ given 4096 ∷ refused 13 ∷ [])
+    × (map (finishAnswer (slice 4096)) (Fresh ∷ Finished 4096 ∷ openAt 5 ∷ openAt 4095 ∷ openAt 4096 ∷ []) ≡ refused 12 ∷ refused 12 ∷ given 4096 ∷ given 4096 ∷ refused 13 ∷ [])
 unfolding beginAnswer clearAnswer updateAnswer finishAnswer marked slotsBelow
 writers = (refl, refl)
 
 -- the states: begun, begun in vain, after a clear, finished, finished in vain
-pub states : beginWriter (slice 4096) Fresh ∷ beginWriter (slice 4095) (Open 14) ∷ recordWriter (given tt) (Open 5) 9 ∷ recordWriter (refused 13) (Open 5) 9 ∷ finishWriter (slice 4096) (Open 14) ∷ finishWriter (slice 4096) (Open 4096) ∷ []
-    ≡ Open 5 ∷ Open 14 ∷ Open 14 ∷ Open 5 ∷ Finished 4096 ∷ Open 4096 ∷ []
+pub states : beginWriter (slice 4096) Fresh ∷ beginWriter (slice 4095) (openAt 14) ∷ recordWriter (given tt) (openAt 5) 9 ∷ recordWriter (refused 13) (openAt 5) 9 ∷ finishWriter (slice 4096) (openAt 14) ∷ finishWriter (slice 4096) (openAt 4096) ∷ []
+    ≡ openAt 5 ∷ openAt 14 ∷ openAt 14 ∷ openAt 5 ∷ Finished 4096 ∷ openAt 4096 ∷ []
 unfolding beginAnswer finishAnswer
 states = refl
 
 -- the logs: begun, a clear of bucket 3 at 5, finished at 14; and in vain
-pub logs : beginLog (slice 4096) 7 ∷ recordLog (given tt) (slice 4096) (Open 5) (recordOf (clear 3)) ∷ finishLog (slice 4097) (Open 14) ∷ beginLog (slice 4095) 7 ∷ finishLog (slice 4096) Fresh ∷ []
+pub logs : beginLog (slice 4096) 7 ∷ recordLog (given tt) (slice 4096) (openAt 5) (recordOf (clear 3)) ∷ finishLog (slice 4097) (openAt 14) ∷ beginLog (slice 4095) 7 ∷ finishLog (slice 4096) Fresh ∷ []
     ≡ (1 ∷ 7 ∷ 0 ∷ 0 ∷ 0 ∷ replicate 4091 6) ∷ (replicate 5 6 ++ (3 ∷ 3 ∷ 0 ∷ 0 ∷ 0 ∷ 0 ∷ 0 ∷ 0 ∷ 0 ∷ replicate 4082 6)) ∷ (replicate 14 6 ++ (2 ∷ (replicate 4081 0 ++ (6 ∷ [])))) ∷ slice 4095 ∷ slice 4096 ∷ []
 unfolding beginAnswer finishAnswer recordOf put
 logs = refl

@@ -51,7 +51,7 @@ update-length id ws ns el b h =
       length-append (bytesOfWords ws) (flat ns ++ (el ++ bytesOf 8 b)),
       length-append (flat ns) (el ++ bytesOf 8 b),
       length-append el (bytesOf 8 b),
-      h .wide .id-long,
+      h .wide .change .id-long,
       words-length ws,
       flat-length ns (h .rows),
       h .wide .elided-long,
@@ -130,7 +130,7 @@ module _ (pre post id ws : List ℕ) (ns : List (List ℕ)) (el : List ℕ) (b :
   head-1 = length-append pre (mark 4)
 
   head-diff : length ((pre ++ mark 4) ++ id) ≡ length pre + 1 + 32
-  head-diff = omega (arith, head-1, length-append (pre ++ mark 4) id, h .wide .id-long)
+  head-diff = omega (arith, head-1, length-append (pre ++ mark 4) id, h .wide .change .id-long)
 
   head-body : length (((pre ++ mark 4) ++ id) ++ bytesOfWords ws) ≡ length pre + 1 + 48
   head-body = omega (arith, head-diff, length-append ((pre ++ mark 4) ++ id) (bytesOfWords ws), words-length ws)
@@ -144,13 +144,13 @@ module _ (pre post id ws : List ℕ) (ns : List (List ℕ)) (el : List ℕ) (b :
   id-back : block 32 withUpdate (length pre + 1) ≡ id
   unfolding recordOf
   id-back =
-      block-in 32 withUpdate (length pre + 1) (pre ++ mark 4) id ((bytesOfWords ws ++ (flat ns ++ (el ++ bytesOf 8 b))) ++ post) (simp append-assoc) (sym head-1) (h .wide .id-long)
+      block-in 32 withUpdate (length pre + 1) (pre ++ mark 4) id ((bytesOfWords ws ++ (flat ns ++ (el ++ bytesOf 8 b))) ++ post) (simp append-assoc) (sym head-1) (h .wide .change .id-long)
 
   diff-back : diffAt withUpdate (length pre + 1) ≡ ws
   unfolding recordOf
   diff-back =
       ap wordsOf (block-in 16 withUpdate (length pre + 1 + 32) ((pre ++ mark 4) ++ id) (bytesOfWords ws) ((flat ns ++ (el ++ bytesOf 8 b)) ++ post) (simp append-assoc) (sym head-diff) (words-length ws))
-      ∙ words-back ws (h .wide .two-words) (h .wide .low-word) (h .wide .high-word)
+      ∙ words-back ws (h .wide .change .two-words) (h .wide .change .low-word) (h .wide .change .high-word)
 
   count-back : countOf (diffAt withUpdate (length pre + 1)) ≡ length ns
   count-back = ap countOf diff-back ∙ sym (h .counted)

@@ -16,10 +16,9 @@ use Rattle.blocks.proofs.Laws.{bytes-length, le-bytesOf, put-length, put-fits, 
 use Rattle.page_diff.specs.Diff.{countOf, reserved}
 use Rattle.wal.specs.Log.{Entry, clear, update, mark, recordOf, recordsOf, startRecord, startSize, clearSize, updateSize, finishedLength, endRecord}
 use Rattle.wal.specs.Reader.{startOf, Next, next, ended, stopped, nextAt, Reading, stopAt, andThen, readOn, readIn, readBy, readFrom, readLog}
-use Rattle.wal.specs.Writer.{capacity, position, ifOpen, ifRoom, beginAnswer, beginLog, beginWriter, clearAnswer, updateAnswer, recordLog, recordWriter, finishAnswer, finishLog}
+use Rattle.wal.specs.Writer.{openAt, capacity, position, ifOpen, ifRoom, beginAnswer, beginLog, beginWriter, clearAnswer, updateAnswer, recordLog, recordWriter, finishAnswer, finishLog}
 use Rattle.wal.specs.Run.{Handed, WellFormed, Run, begun, with-clear, with-update, logOf}
 use Rattle.wal.specs.declared.Writer.{Writer}
-use Rattle.wal.specs.declared.Writer.the-variants.{Fresh, Open, Finished}
 use Rattle.wal.proofs.Records.{block-in, byte-in, clear-length, update-length, record-length, next-record, next-end}
 
 -- every entry is one that a call can hand over
@@ -112,7 +111,7 @@ all-snoc (x ∷ es) e (more k hs) h = more k (all-snoc es e hs h)
 pub record Made (log₀ : List ℕ) (sync : ℕ) (w : Writer) (log : List ℕ) (es : List Entry) : Type 0 where
   pub number : sync < 2 ^ 32
   pub all : AllWellFormed es
-  pub is-open : w ≡ Open (startSize + length (recordsOf es))
+  pub is-open : w ≡ openAt (startSize + length (recordsOf es))
   pub same-log : log ≡ put log₀ 0 (startRecord sync ++ recordsOf es)
   pub room : startSize + length (recordsOf es) + 1 ≤ capacity log₀
 
@@ -130,7 +129,7 @@ same-capacity a b e = ap (λ (n : ℕ). n / 4096 * 4096) e
 -- one record more
 module _ (log₀ : List ℕ) (sync : ℕ) (log : List ℕ) (es : List Entry) (e : Entry) (h : WellFormed e) where
   grown : (pos : ℕ) → sync < 2 ^ 32 → AllWellFormed es → pos ≡ startSize + length (recordsOf es) → log ≡ put log₀ 0 (startRecord sync ++ recordsOf es) → pos + length (recordOf e) + 1 ≤ capacity log
-      → Made log₀ sync (Open (pos + length (recordOf e))) (put log pos (recordOf e)) (es ++ (e ∷ []))
+      → Made log₀ sync (openAt (pos + length (recordOf e))) (put log pos (recordOf e)) (es ++ (e ∷ []))
   grown pos small hs at-end made fits =
       let long : length log ≡ length log₀ = ap length made ∙ put-length log₀ 0 (startRecord sync ++ recordsOf es) in
       let done : length (startRecord sync ++ recordsOf es) ≡ pos = length-append (startRecord sync) (recordsOf es) ∙ ap (λ (n : ℕ). n + length (recordsOf es)) (start-length sync) ∙ sym at-end in
@@ -139,7 +138,7 @@ module _ (log₀ : List ℕ) (sync : ℕ) (log : List ℕ) (es : List Entry) (e 
       record {
         number = small;
         all = all-snoc es e hs h;
-        is-open = ap Open (omega arith);
+        is-open = ap openAt (omega arith);
         same-log =
             ap₂ (λ (l : List ℕ) (p : ℕ). put l p (recordOf e)) made place
             ∙ put-append log₀ 0 (startRecord sync ++ recordsOf es) (recordOf e) (omega (arith, capacity-most log))
@@ -148,11 +147,11 @@ module _ (log₀ : List ℕ) (sync : ℕ) (log : List ℕ) (es : List Entry) (e 
       }
 
 -- a record that was accepted had room, also for the end after it
-pub clear-room : (log : List ℕ) (pos : ℕ) → accepted (clearAnswer log (Open pos)) ≡ true → pos + clearSize + 1 ≤ capacity log
+pub clear-room : (log : List ℕ) (pos : ℕ) → accepted (clearAnswer log (openAt pos)) ≡ true → pos + clearSize + 1 ≤ capacity log
 unfolding clearAnswer
 clear-room log pos ok = leb-true (pos + clearSize + 1) (capacity log) (room-held (leb (pos + clearSize + 1) (capacity log)) tt 13 ok)
 
-pub update-room : (log : List ℕ) (ws : List ℕ) (held pos : ℕ) → accepted (updateAnswer log (Open pos) ws held) ≡ true → pos + updateSize held + 1 ≤ capacity log
+pub update-room : (log : List ℕ) (ws : List ℕ) (held pos : ℕ) → accepted (updateAnswer log (openAt pos) ws held) ≡ true → pos + updateSize held + 1 ≤ capacity log
 unfolding updateAnswer
 update-room log ws held pos ok =
     leb-true (pos + updateSize held + 1) (capacity log) (through (eqb held (countOf ws)) (reserved ws) (leb (pos + updateSize held + 1) (capacity log)) ok)
@@ -164,7 +163,7 @@ update-room log ws held pos ok =
 
 -- one accepted call more
 record-step : (log₀ : List ℕ) (sync : ℕ) (w : Writer) (log : List ℕ) (es : List Entry) (e : Entry) → WellFormed e → (a : Writer → Answer (Unit {0})) (size : ℕ) → size ≡ length (recordOf e)
-    → ((pos : ℕ) → accepted (a (Open pos)) ≡ true → pos + size + 1 ≤ capacity log) → Made log₀ sync w log es → accepted (a w) ≡ true
+    → ((pos : ℕ) → accepted (a (openAt pos)) ≡ true → pos + size + 1 ≤ capacity log) → Made log₀ sync w log es → accepted (a w) ≡ true
     → Made log₀ sync (recordWriter (a w) w size) (recordLog (a w) log w (recordOf e)) (es ++ (e ∷ []))
 record-step log₀ sync w log es e h a size long room made ok =
     subst (λ (v : Writer). accepted (a v) ≡ true → Made log₀ sync (recordWriter (a v) v size) (recordLog (a v) log v (recordOf e)) (es ++ (e ∷ []))) (sym (made .is-open)) at-open ok
@@ -172,11 +171,11 @@ record-step log₀ sync w log es e h a size long room made ok =
     pos : ℕ
     pos = startSize + length (recordsOf es)
 
-    at-open : accepted (a (Open pos)) ≡ true → Made log₀ sync (recordWriter (a (Open pos)) (Open pos) size) (recordLog (a (Open pos)) log (Open pos) (recordOf e)) (es ++ (e ∷ []))
+    at-open : accepted (a (openAt pos)) ≡ true → Made log₀ sync (recordWriter (a (openAt pos)) (openAt pos) size) (recordLog (a (openAt pos)) log (openAt pos) (recordOf e)) (es ++ (e ∷ []))
     at-open yes-there =
         let m = grown log₀ sync log es e h pos (made .number) (made .all) refl (made .same-log) (omega (arith, room pos yes-there)) in
         subst₂ (λ (v : Writer) (l : List ℕ). Made log₀ sync v l (es ++ (e ∷ [])))
-        (ap (λ (n : ℕ). Open (pos + n)) (sym long) ∙ sym (ap (λ (t : Bool). cond t (Open (pos + size)) (Open pos)) yes-there))
+        (ap (λ (n : ℕ). openAt (pos + n)) (sym long) ∙ sym (ap (λ (t : Bool). cond t (openAt (pos + size)) (openAt pos)) yes-there))
         (sym (ap (λ (t : Bool). cond t (put log pos (recordOf e)) log) yes-there)) m
 
 -- what a run has made, call by call
@@ -187,7 +186,7 @@ run-made log₀ sync (begun w small ok) =
     record {
       number = small;
       all = none;
-      is-open = ap (λ (t : Bool). cond t (Open startSize) w) ok;
+      is-open = ap (λ (t : Bool). cond t (openAt startSize) w) ok;
       same-log = ap (λ (t : Bool). cond t (put log₀ 0 (startRecord sync)) log₀) ok ∙ ap (put log₀ 0) (sym (append-nil (startRecord sync)));
       room = omega (arith, leb-true 4096 (capacity log₀) fits);
     }

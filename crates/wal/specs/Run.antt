@@ -11,12 +11,16 @@ use Rattle.wal.specs.Log.{Entry, clear, update, recordOf, startRecord, s
 use Rattle.wal.specs.Writer.{beginAnswer, beginLog, beginWriter, clearAnswer, updateAnswer, recordLog, recordWriter}
 use Rattle.wal.specs.declared.Writer.{Writer}
 
--- what the types of an update's parts say: their widths
-pub record Wide (id ws elided : List ℕ) (b : ℕ) : Type 0 where
+-- what the types of a change's id and diff say: their widths
+pub record WideChange (id ws : List ℕ) : Type 0 where
   pub id-long : length id ≡ 32
   pub two-words : length ws ≡ 2
   pub low-word : getD ws 0 0 < 2 ^ 64
   pub high-word : getD ws 1 0 < 2 ^ 64
+
+-- and those of an update's parts
+pub record Wide (id ws elided : List ℕ) (b : ℕ) : Type 0 where
+  pub change : WideChange id ws
   pub elided-long : length elided ≡ 8
   pub bucket : b < 2 ^ 64
 

@@ -15,7 +15,10 @@ use Rattle.wal.specs.declared.Writer.the-variants.{Fresh, Open, Finished
 abbrev pub capacity : List ℕ → ℕ
 capacity log = length log / 4096 * 4096
 
--- where an open writer stands
+-- an open writer, and where it stands
+abbrev pub openAt : ℕ → Writer
+openAt p = Open p
+
 abbrev pub position : Writer → ℕ
 position Fresh = 0
 position (Open p) = p
@@ -46,7 +49,7 @@ abbrev pub beginLog : List ℕ → ℕ → List ℕ
 beginLog log sync = logBy (beginAnswer log) log 0 (startRecord sync)
 
 abbrev pub beginWriter : List ℕ → Writer → Writer
-beginWriter log w = writerBy (beginAnswer log) w (Open startSize)
+beginWriter log w = writerBy (beginAnswer log) w (openAt startSize)
 
 -- a clear: 12, 13
 unfoldable pub clearAnswer : List ℕ → Writer → Answer (Unit {0})
@@ -62,7 +65,7 @@ abbrev pub recordLog : Answer (Unit {0}) → List ℕ → Writer → List ℕ �
 recordLog a log w bytes = logBy a log (position w) bytes
 
 abbrev pub recordWriter : Answer (Unit {0}) → Writer → ℕ → Writer
-recordWriter a w size = writerBy a w (Open (position w + size))
+recordWriter a w size = writerBy a w (openAt (position w + size))
 
 -- finish: 12; "13 if position + 1 is above its capacity"; "answers the length of the log"
 unfoldable pub finishAnswer : List ℕ → Writer → Answer ℕ

@@ -11,7 +11,7 @@ use Rattle.answers.specs.Answers.{Answer, given, refused, accepted}
 use Rattle.blocks.specs.Blocks.{block, put, flat}
 use Rattle.page_diff.specs.Diff.{marked, slotsBelow}
 use Rattle.wal.specs.Log.{clear, recordOf, startRecord}
-use Rattle.wal.specs.Writer.{capacity, position, beginAnswer, beginWriter, beginLog, clearAnswer, updateAnswer}
+use Rattle.wal.specs.Writer.{openAt, capacity, position, beginAnswer, beginWriter, beginLog, clearAnswer, updateAnswer}
 use Rattle.wal.specs.declared.Writer.{Writer}
 use Rattle.wal.specs.declared.Writer.the-variants.{Fresh, Open, Finished}
 use Rattle.wal.proofs.Examples.{slice}
@@ -45,7 +45,7 @@ allTaken s (b ∷ bs) = accepted (nextClear s) && allTaken (cleared s b) bs
 
 -- an open writer in a log of so many whole bytes
 pub record Stands (s : At) (pos cap : ℕ) : Type 0 where
-  pub is-open : s .writer ≡ Open pos
+  pub is-open : s .writer ≡ openAt pos
   pub whole : capacity (s .log) ≡ cap
 
 module _ (s : At) (pos cap : ℕ) (h : Stands s pos cap) where
@@ -62,19 +62,19 @@ module _ (s : At) (pos cap : ℕ) (h : Stands s pos cap) where
   clear-moves : (b : ℕ) → pos + 9 + 1 ≤ cap → Stands (cleared s b) (pos + 9) cap
   clear-moves b l = record {
     is-open =
-        ap (λ (a : Answer (Unit {0})). cond (accepted a) (Open (position (s .writer) + 9)) (s .writer)) (clear-taken l)
-        ∙ ap (λ (v : Writer). Open (position v + 9)) (h .is-open);
+        ap (λ (a : Answer (Unit {0})). cond (accepted a) (openAt (position (s .writer) + 9)) (s .writer)) (clear-taken l)
+        ∙ ap (λ (v : Writer). openAt (position v + 9)) (h .is-open);
     whole = same-capacity (clearLog (s .log) (s .writer) b) (s .log) (same-length (nextClear s) (s .log) (position (s .writer)) (recordOf (clear b))) ∙ h .whole;
   }
 
 clears-fit : (bs : List ℕ) (s : At) (pos cap : ℕ) → Stands s pos cap → pos + 9 * length bs + 1 ≤ cap → (allTaken s bs ≡ true) × Stands (allCleared s bs) (pos + 9 * length bs) cap
 unfolding allTaken allCleared
-clears-fit [] s pos cap h l = let z : pos ≡ pos + 9 * 0 = omega arith in (refl, record { is-open = h .is-open ∙ ap Open z; whole = h .whole })
+clears-fit [] s pos cap h l = let z : pos ≡ pos + 9 * 0 = omega arith in (refl, record { is-open = h .is-open ∙ ap openAt z; whole = h .whole })
 clears-fit (b ∷ bs) s pos cap h l =
     let rest = clears-fit bs (cleared s b) (pos + 9) cap (clear-moves s pos cap h b (omega arith)) (omega arith) in
     let z : pos + 9 + 9 * length bs ≡ pos + 9 * suc (length bs) = omega arith in (
       ap₂ (λ (x y : Bool). x && y) (ap accepted (clear-taken s pos cap h (omega arith))) (rest .0),
-      record { is-open = rest .1 .is-open ∙ ap Open z; whole = rest .1 .whole },
+      record { is-open = rest .1 .is-open ∙ ap openAt z; whole = rest .1 .whole },
     )
 
 pub clears-by-hand : (s : At) (sync : ℕ) (bs : List ℕ) → capacity (s .log) ≡ 4096 → length bs ≡ 454
@@ -82,7 +82,7 @@ pub clears-by-hand : (s : At) (sync : ℕ) (bs : List ℕ) → capacity (s .log)
 clears-by-hand s sync bs e n =
     let begins : beginAnswer (s .log) ≡ given tt = begin-given (s .log) (omega arith) in
     let stands : Stands (begun s sync) 5 4096 = record {
-      is-open = ap (λ (a : Answer (Unit {0})). cond (accepted a) (Open 5) (s .writer)) begins;
+      is-open = ap (λ (a : Answer (Unit {0})). cond (accepted a) (openAt 5) (s .writer)) begins;
       whole = same-capacity (beginLog (s .log) sync) (s .log) (same-length (beginAnswer (s .log)) (s .log) 0 (startRecord sync)) ∙ e;
     } in
     let all = clears-fit bs (begun s sync) 5 4096 stands (omega arith) in

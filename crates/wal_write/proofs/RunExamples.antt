@@ -14,8 +14,8 @@ use Rattle.page_diff.specs.Diff.{digit, marked, slotsBelow}
 use Rattle.wal.specs.Log.{Entry, clear, update, recordOf, recordsOf}
 use Rattle.wal.specs.Reader.{readLog}
 use Rattle.wal.specs.Run.{Wide, Rows, Run}
-use Rattle.wal.specs.Writer.{beginAnswer, beginLog, clearAnswer, updateAnswer, finishAnswer, finishLog}
-use Rattle.wal.specs.declared.Writer.the-variants.{Fresh, Open, Finished}
+use Rattle.wal.specs.Writer.{openAt, beginAnswer, beginLog, clearAnswer, updateAnswer, finishAnswer, finishLog}
+use Rattle.wal.specs.declared.Writer.the-variants.{Fresh, Finished}
 use Rattle.wal_write.specs.Calls.{clearLog, updateLog, pageUpdateAnswer, pageUpdate, pageUpdateLog, Begins, Clears, Updates, UpdatesPage, Finishes}
 use Rattle.wal_write.specs.declared.Written.{Written}
 use Rattle.wal_write.proofs.Runs.{after-begin, after-clear, after-update, after-page-update, reads-back}
@@ -41,19 +41,19 @@ page = replicate 4096 2
 
 -- a record taken, the writer then open at so much
 abbrev done : ℕ → Written
-done pos = record { outcome = outcome.Done; writer = Open pos }
+done pos = record { outcome = outcome.Done; writer = openAt pos }
 
 abbrev log₁ : List ℕ
 log₁ = beginLog slice 7
 
 abbrev log₂ : List ℕ
-log₂ = clearLog log₁ (Open 5) 3
+log₂ = clearLog log₁ (openAt 5) 3
 
 abbrev log₃ : List ℕ
-log₃ = updateLog log₂ (Open 14) id words table 2 elided 9
+log₃ = updateLog log₂ (openAt 14) id words table 2 elided 9
 
 abbrev log₄ : List ℕ
-log₄ = pageUpdateLog log₃ (Open 143) id words page 9
+log₄ = pageUpdateLog log₃ (openAt 143) id words page 9
 
 -- the entry is made of the two nodes alone
 abbrev updated : Entry
@@ -63,45 +63,45 @@ begins : Begins slice Fresh 7 (done 5) log₁
 unfolding beginAnswer
 begins = (refl, (refl, refl), lit< tt)
 
-clears : Clears log₁ (Open 5) 3 (done 14) log₂
+clears : Clears log₁ (openAt 5) 3 (done 14) log₂
 unfolding beginAnswer clearAnswer put
 clears = (refl, (refl, refl), lit< tt)
 
 wide : Wide id words elided 9
-wide = record { id-long = refl; two-words = refl; low-word = lit< tt; high-word = lit< tt; elided-long = refl; bucket = lit< tt }
+wide = record { change = record { id-long = refl; two-words = refl; low-word = lit< tt; high-word = lit< tt }; elided-long = refl; bucket = lit< tt }
 
 rows : Rows table 2
 rows zero h = refl
 rows (suc zero) h = refl
 rows (suc (suc i)) h = absurd (omega arith)
 
-updates : Updates log₂ (Open 14) id words table 2 elided 9 (done 143) log₃
+updates : Updates log₂ (openAt 14) id words table 2 elided 9 (done 143) log₃
 unfolding beginAnswer clearAnswer updateAnswer put recordOf slotsBelow marked digit
 updates = (refl, (refl, refl), wide, λ ok. rows)
 
-pages : UpdatesPage log₃ (Open 143) id words page 9 (done 272) log₄
+pages : UpdatesPage log₃ (openAt 143) id words page 9 (done 272) log₄
 unfolding beginAnswer clearAnswer updateAnswer pageUpdateAnswer put recordOf flat block slotsBelow marked digit
 pages = (refl, (refl, refl), wide)
 
-finishes : Finishes log₄ (Open 272) (record { answer = num.Is 4096; writer = Finished 4096 }) (finishLog log₄ (Open 272))
+finishes : Finishes log₄ (openAt 272) (record { answer = num.Is 4096; writer = Finished 4096 }) (finishLog log₄ (openAt 272))
 unfolding beginAnswer clearAnswer updateAnswer pageUpdateAnswer finishAnswer put recordOf flat block slotsBelow marked digit
 finishes = (refl, (refl, refl))
 
 -- the calls, one after the other
-one-call : Run slice 7 (Open 5) log₁ []
+one-call : Run slice 7 (openAt 5) log₁ []
 one-call = after-begin slice Fresh 7 (done 5) log₁ begins refl
 
-two-calls : Run slice 7 (Open 14) log₂ (clear 3 ∷ [])
-two-calls = after-clear slice 7 (Open 5) log₁ [] one-call (done 14) log₂ 3 clears refl
+two-calls : Run slice 7 (openAt 14) log₂ (clear 3 ∷ [])
+two-calls = after-clear slice 7 (openAt 5) log₁ [] one-call (done 14) log₂ 3 clears refl
 
-three-calls : Run slice 7 (Open 143) log₃ (clear 3 ∷ updated ∷ [])
-three-calls = after-update slice 7 (Open 14) log₂ (clear 3 ∷ []) two-calls (done 143) log₃ id words table 2 elided 9 updates refl
+three-calls : Run slice 7 (openAt 143) log₃ (clear 3 ∷ updated ∷ [])
+three-calls = after-update slice 7 (openAt 14) log₂ (clear 3 ∷ []) two-calls (done 143) log₃ id words table 2 elided 9 updates refl
 
-pub four-calls : Run slice 7 (Open 272) log₄ (clear 3 ∷ updated ∷ pageUpdate id words page 9 ∷ [])
-four-calls = after-page-update slice 7 (Open 143) log₃ (clear 3 ∷ updated ∷ []) three-calls (done 272) log₄ id words page 9 pages refl
+pub four-calls : Run slice 7 (openAt 272) log₄ (clear 3 ∷ updated ∷ pageUpdate id words page 9 ∷ [])
+four-calls = after-page-update slice 7 (openAt 143) log₃ (clear 3 ∷ updated ∷ []) three-calls (done 272) log₄ id words page 9 pages refl
 
 -- and what they made reads back
-pub four-read-back : readLog (take 4096 (finishLog log₄ (Open 272))) ≡ record { entries = clear 3 ∷ updated ∷ pageUpdate id words page 9 ∷ []; at = 272; stop = given tt }
+pub four-read-back : readLog (take 4096 (finishLog log₄ (openAt 272))) ≡ record { entries = clear 3 ∷ updated ∷ pageUpdate id words page 9 ∷ []; at = 272; stop = given tt }
 unfolding recordsOf recordOf flat block slotsBelow marked digit
 four-read-back =
-    reads-back slice 7 (Open 272) log₄ (clear 3 ∷ updated ∷ pageUpdate id words page 9 ∷ []) four-calls (record { answer = num.Is 4096; writer = Finished 4096 }) (finishLog log₄ (Open 272)) finishes
+    reads-back slice 7 (openAt 272) log₄ (clear 3 ∷ updated ∷ pageUpdate id words page 9 ∷ []) four-calls (record { answer = num.Is 4096; writer = Finished 4096 }) (finishLog log₄ (openAt 272)) finishes

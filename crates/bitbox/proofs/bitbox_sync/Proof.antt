@@ -53,6 +53,7 @@ use Rattle.bitbox.specs.declared.SyncAnswer.{SyncAnswer}
 use Rattle.bitbox.specs.declared.WriterState.{WriterState}
 use Rattle.wal.proofs.Writer as Z
 use Rattle.wal.proofs.Writer.Laws as Z′
+use Rattle.sync.proofs.Frame.{word, mt, pgTy, chTy, lt, free, holds}
 use Rattle.sync.proofs.Change as T
 use Rattle.sync.proofs.SyncAnswer as Q
 use Rattle.sync.proofs.SyncAnswer.Laws as Q′
@@ -209,28 +210,6 @@ module _ {M : Type 1} (𝓤 : URA M) (H : Heap 𝓤) (A : Atoms 𝓤) (W : Given
 
     abbrev Λ : Loops 𝓤 H
     Λ = 𝓣 .Λ
-
-    abbrev word : Ty
-    word = tyInt w64
-
-    abbrev mt : ℕ → Width → Ty
-    mt k x = sliceTy (tyRef (named k) mut (tyInt x))
-
-    abbrev pgTy : Ty
-    pgTy = sliceTy (tyRef (named 4) imm (tyInt w8))
-
-    abbrev chTy : Ty
-    chTy = sliceTy (tyRef (named 5) imm (pointee (T.the-row .written)))
-
-    abbrev lt : Width → Ty
-    lt x = tyRef erased mut (tyInt x)
-
-    -- a local that is free, and one that holds a value
-    abbrev free : Ty → ℕ → List (Item 𝓤) → List (Item 𝓤)
-    free τ l Γ = ‵ (froom τ l 0) ∷ ‵ (fdies τ l) ∷ Γ
-
-    abbrev holds : Ty → ℕ → Val → List (Item 𝓤) → List (Item 𝓤)
-    holds τ l v Γ = ‵ (fat fullShare τ l 0 v) ∷ ‵ (fdies τ l) ∷ Γ
 
     abbrev En : Env 𝓤 H
     En = (R′.mir, l0) ∷ (mt 0 w8, l1) ∷ (mt 1 w8, l2) ∷ (mt 2 w64, l3) ∷ (mt 3 w8, l4) ∷ (pgTy, l5) ∷ (chTy, l6) ∷ (word, l7) ∷ (S′.mir, l8) ∷

@@ -9,7 +9,6 @@ use Rattle.answers.specs.Refusals.{numberOf}
 use Rattle.ht_file.specs.Places.{tagsFit, tagPages}
 use Rattle.ht_file.proofs.Laws.{tags-fit-facts}
 use Rattle.wal.specs.declared.Writer.{Writer}
-use Rattle.wal.specs.declared.Writer.the-variants.{Open}
 use Rattle.sync.specs.Change.{Wide, memOf, effectOf, cleared, updated, allocated, stateOf}
 use Rattle.sync.specs.InnerChange.{outlookSaid, outlookFits}
 use Rattle.sync.specs.declared.Change.{Change}

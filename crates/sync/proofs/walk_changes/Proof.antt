@@ -64,6 +64,7 @@ use Rattle.sync.specs.declared.SyncState.{SyncState}
 use Rattle.sync.specs.declared.Walked.{Walked}
 use Rattle.sync.specs.declared.Walk.{Walk}
 use Rattle.sync.specs.declared.Walk.the-variants.{Through, RefusedAt}
+use Rattle.sync.proofs.Frame.{word, mt, pgTy, chTy, lt, free, holds}
 use Rattle.sync.proofs.Again.{LentAgain, lends-again, comes-back}
 use Rattle.sync.proofs.WalkLaws.{no-change, at-all, at-mem, end-all, end-mem}
 use Rattle.sync.proofs.Widths.{typed-wide, all-wide}
@@ -264,28 +265,6 @@ module _ {M : Type 1} (𝓤 : URA M) (H : Heap 𝓤) (A : Atoms 𝓤) (W : Given
 
     abbrev Λ : Loops 𝓤 H
     Λ = 𝓣 .Λ
-
-    abbrev word : Ty
-    word = tyInt w64
-
-    abbrev mt : ℕ → Width → Ty
-    mt k w = sliceTy (tyRef (named k) mut (tyInt w))
-
-    abbrev pgTy : Ty
-    pgTy = sliceTy (tyRef (named 4) imm (tyInt w8))
-
-    abbrev chTy : Ty
-    chTy = sliceTy (tyRef (named 5) imm (pointee (T.the-row .written)))
-
-    abbrev lt : Width → Ty
-    lt w = tyRef erased mut (tyInt w)
-
-    -- a local that is free, and one that holds a value
-    abbrev free : Ty → ℕ → List (Item 𝓤) → List (Item 𝓤)
-    free τ l Γ = ‵ (froom τ l 0) ∷ ‵ (fdies τ l) ∷ Γ
-
-    abbrev holds : Ty → ℕ → Val → List (Item 𝓤) → List (Item 𝓤)
-    holds τ l v Γ = ‵ (fat fullShare τ l 0 v) ∷ ‵ (fdies τ l) ∷ Γ
 
     abbrev En : Env 𝓤 H
     En = (Q′.mir, l0) ∷ ((mt 0 w8), l1) ∷ ((mt 1 w8), l2) ∷ ((mt 2 w64), l3) ∷ ((mt 3 w8), l4) ∷ (pgTy, l5) ∷ (chTy, l6) ∷ (P′.mir, l7) ∷ (P′.mir, l8) ∷ (word, l9) ∷ (

@@ -8,8 +8,7 @@ use borrow.Author.Needs.{needs}
 use Rattle.answers.specs.Answers.{given, outcomeSaid}
 use Rattle.blocks.specs.Blocks.{bytesOf}
 use Rattle.wal.specs.Log.{startRecord}
-use Rattle.wal.specs.Writer.{beginAnswer}
-use Rattle.wal.specs.declared.Writer.the-variants.{Open}
+use Rattle.wal.specs.Writer.{openAt, beginAnswer}
 use Rattle.wal_write.proofs.Bytes.{put-marked}
 use Rattle.wal_write.proofs.CallLaws.{begin-short, begin-given, refused-leaves, given-leaves}
 use Rattle.wal_write.proofs.begin.Statement.{statement}
@@ -23,7 +22,7 @@ returns c =
     let start = c .before .before .before in
     let args = start .args in
     let log : List ℕ = args .log .now in
-    let left = refused-leaves (beginAnswer log) (args .w) (Open 5) log 0 (startRecord (args .sync)) 13 (outcomeSaid (c .kept .result .outcome)) (c .kept .result .writer) (begin-short log (c .before .if1 .taken)) (c .kept .ensures .0) (c .kept .ensures .1) in
+    let left = refused-leaves (beginAnswer log) (args .w) (openAt 5) log 0 (startRecord (args .sync)) 13 (outcomeSaid (c .kept .result .outcome)) (c .kept .result .writer) (begin-short log (c .before .if1 .taken)) (c .kept .ensures .0) (c .kept .ensures .1) in
     (left .0, left .1, start .fits .sync .fits)
 
 slice-write-log : tie.Need-slice-write-log
@@ -44,7 +43,7 @@ returns-2 c =
     let log : List ℕ = args .log .now in
     let bs : List ℕ = bytesOf 4 (args .sync) in
     let long : length bs ≡ 4 = refl in
-    let left = given-leaves (beginAnswer log) (args .w) (Open 5) log 0 (startRecord (args .sync)) tt (given tt) (Open 5) (called .write-u32 .last .0) (begin-given log (past .if1 .left)) refl refl (called .write-u32 .ensures ∙ put-marked log 0 1 bs (omega arith)) in
+    let left = given-leaves (beginAnswer log) (args .w) (openAt 5) log 0 (startRecord (args .sync)) tt (given tt) (openAt 5) (called .write-u32 .last .0) (begin-given log (past .if1 .left)) refl refl (called .write-u32 .ensures ∙ put-marked log 0 1 bs (omega arith)) in
     (left .0, left .1, start .fits .sync .fits)
 
 pub begin-spec : {M : Type 1} → statement M

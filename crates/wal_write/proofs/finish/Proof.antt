@@ -11,9 +11,9 @@ use borrow.Author.Tests.{leb-true, not-true, not-false}
 use Rattle.answers.specs.Answers.{given, refused}
 use Rattle.blocks.specs.Blocks.{put}
 use Rattle.wal.specs.Log.{finishedLength, endRecord}
-use Rattle.wal.specs.Writer.{capacity, position, finishAnswer}
+use Rattle.wal.specs.Writer.{openAt, capacity, position, finishAnswer}
 use Rattle.wal.specs.declared.Writer.{Writer}
-use Rattle.wal.specs.declared.Writer.the-variants.{Open, Finished}
+use Rattle.wal.specs.declared.Writer.the-variants.{Finished}
 use Rattle.wal_write.proofs.Bytes.{put-marked}
 use Rattle.wal_write.proofs.CallLaws.{finish-tests, not-open, no-room, taken, refused-leaves, given-leaves}
 use Rattle.wal_write.proofs.finish.Statement.{statement}
@@ -30,7 +30,7 @@ module _ (c : tie.After-room-at) where
   abbrev at : ℕ
   at = c .before .before .w .given .0 .0
 
-  opened : w ≡ Open at
+  opened : w ≡ openAt at
   opened = c .before .before .w .given .1
 
   full : c .room-at .result ≡ false → leb (at + 0 + 1) (capacity log) ≡ false
@@ -64,7 +64,7 @@ room-at-requires c κs = search needs
 returns-2 : tie.Need-returns-2
 returns-2 c =
     let k = c .before in
-    refused-leaves (finishAnswer (log k) (w k)) (w k) (Finished (finishedLength (position (w k)))) (log k) (position (w k)) (endRecord (position (w k))) 13 (refused 13) (Open (at k))
+    refused-leaves (finishAnswer (log k) (w k)) (w k) (Finished (finishedLength (position (w k)))) (log k) (position (w k)) (endRecord (position (w k))) 13 (refused 13) (openAt (at k))
     (finish-tests (log k) (w k) ∙ no-room (log k) (w k) true false 0 (given (finishedLength (position (w k)))) (at k) (opened k) refl refl (full k (not-true (k .room-at .result) (c .if1 .taken)))) refl (sym (opened k))
 
 add-len : tie.Need-add-len

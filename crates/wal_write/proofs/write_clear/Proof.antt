@@ -9,9 +9,8 @@ use borrow.Author.Needs.{needs}
 use borrow.Author.Tests.{leb-true, not-true, not-false}
 use Rattle.answers.specs.Answers.{given, outcomeSaid}
 use Rattle.wal.specs.Log.{clear, recordOf}
-use Rattle.wal.specs.Writer.{capacity, clearAnswer}
+use Rattle.wal.specs.Writer.{openAt, capacity, clearAnswer}
 use Rattle.wal.specs.declared.Writer.{Writer}
-use Rattle.wal.specs.declared.Writer.the-variants.{Open}
 use Rattle.wal_write.proofs.CallLaws.{clear-tests, not-open, no-room, taken, record-refused, record-given}
 use Rattle.wal_write.proofs.write_clear.Statement.{statement}
 use Rattle.wal_write.proofs.write_clear.Tie as tie
@@ -27,7 +26,7 @@ module _ (c : tie.After-room-at) where
   abbrev at : ℕ
   at = c .before .before .w .given .0 .0
 
-  opened : w ≡ Open at
+  opened : w ≡ openAt at
   opened = c .before .before .w .given .1
 
   full : c .room-at .result ≡ false → leb (at + 9 + 1) (capacity log) ≡ false
@@ -82,7 +81,7 @@ returns-3 c =
     let k = past .before in
     let start = k .before .before .before .before .before in
     let args = start .args in
-    let left = record-given (clearAnswer (log k) (w k)) (log k) (w k) 9 (recordOf (clear (args .bucket))) (at k) (Open (at k + 9)) (called .put-clear .last .0) (opened k)
+    let left = record-given (clearAnswer (log k) (w k)) (log k) (w k) 9 (recordOf (clear (args .bucket))) (at k) (openAt (at k + 9)) (called .put-clear .last .0) (opened k)
     (clear-tests (log k) (w k) ∙ taken (log k) (w k) true false 9 (given tt) (at k) (opened k) refl refl (roomy k (not-false (k .room-at .result) (past .if1 .left)))) refl (called .put-clear .ensures) in
     (left .0, left .1, start .fits .bucket .fits)
 

@@ -15,10 +15,9 @@ use Rattle.blocks.specs.Blocks.{bytesOf, put, flat}
 use Rattle.page_diff.specs.Diff.{countOf, reserved}
 use Rattle.page_diff.proofs.Walk.{plain-count}
 use Rattle.wal.specs.Log.{update, recordOf}
-use Rattle.wal.specs.Writer.{capacity, updateAnswer}
+use Rattle.wal.specs.Writer.{openAt, capacity, updateAnswer}
 use Rattle.wal.specs.Run.{Wide}
 use Rattle.wal.specs.declared.Writer.{Writer}
-use Rattle.wal.specs.declared.Writer.the-variants.{Open}
 use Rattle.wal_write.specs.Calls.{Updates}
 use Rattle.wal_write.specs.declared.Written.{Written}
 use Rattle.wal_write.proofs.Bytes.{put-update}
@@ -52,10 +51,7 @@ module _ (c : tie.Start) where
       let low : Fits w64 (getD ws 0 0) = search needs in
       let high : Fits w64 (getD ws 1 0) = search needs in
       record {
-        id-long = search needs;
-        two-words = search needs;
-        low-word = low .fits;
-        high-word = high .fits;
+        change = record { id-long = search needs; two-words = search needs; low-word = low .fits; high-word = high .fits };
         elided-long = search needs;
         bucket = c .fits .bucket .fits;
       }
@@ -74,7 +70,7 @@ module _ (c : tie.After-known-told) where
   abbrev at : ℕ
   at = c .before .w .given .0 .0
 
-  opened : w start ≡ Open at
+  opened : w start ≡ openAt at
   opened = c .before .w .given .1
 
 -- as many nodes as the diff marks
@@ -212,7 +208,7 @@ returns-5 c =
     let s = start k in
     let ns : List (List ℕ) = take (held s) (s .args .nodes .now) in
     let end : List ℕ = s .args .elided ++ bytesOf 8 (s .args .bucket) in
-    let left = record-given (answer s) (log s) (w s) (65 + 32 * held s) (bytes s) (at k) (Open (at k + (65 + 32 * held s))) (tail .put-tail .last .0) (opened k)
+    let left = record-given (answer s) (log s) (w s) (65 + 32 * held s) (bytes s) (at k) (openAt (at k + (65 + 32 * held s))) (tail .put-tail .last .0) (opened k)
     (update-tests (log s) (w s) (ws s) (held s)
     ∙ taken (log s) (w s) (eqb (held s) (countOf (ws s))) (reserved (ws s)) (65 + 32 * held s) (given tt) (at k) (opened k) (fit (past .before .before .before .before)) (plain (past .before .before)) (roomy past)) refl
     (tail .put-tail .ensures .0

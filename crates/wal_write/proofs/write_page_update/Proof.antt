@@ -17,10 +17,9 @@ use Rattle.page_diff.specs.Diff.{slots, countOf, reserved}
 use Rattle.page_diff.specs.Pack.{nodeAt}
 use Rattle.page_diff.proofs.Walk.{plain-count}
 use Rattle.wal.specs.Log.{recordOf}
-use Rattle.wal.specs.Writer.{capacity}
+use Rattle.wal.specs.Writer.{openAt, capacity}
 use Rattle.wal.specs.Run.{Wide}
 use Rattle.wal.specs.declared.Writer.{Writer}
-use Rattle.wal.specs.declared.Writer.the-variants.{Open}
 use Rattle.wal_write.specs.Calls.{pageUpdateAnswer, pageUpdate, UpdatesPage}
 use Rattle.wal_write.specs.declared.Written.{Written}
 use Rattle.page_diff.proofs.Nodes.{page-nodes-length, nodes-plain}
@@ -55,10 +54,7 @@ module _ (c : tie.Start) where
       let low : Fits w64 (getD ws 0 0) = search needs in
       let high : Fits w64 (getD ws 1 0) = search needs in
       record {
-        id-long = search needs;
-        two-words = search needs;
-        low-word = low .fits;
-        high-word = high .fits;
+        change = record { id-long = search needs; two-words = search needs; low-word = low .fits; high-word = high .fits };
         elided-long = block-length 8 page 4056;
         bucket = c .fits .bucket .fits;
       }
@@ -77,7 +73,7 @@ module _ (c : tie.After-known-told) where
   abbrev at : ℕ
   at = c .before .w .given .0 .0
 
-  opened : w start ≡ Open at
+  opened : w start ≡ openAt at
   opened = c .before .w .given .1
 
 -- a whole page
@@ -222,10 +218,10 @@ returns-5 c =
     let n : ℕ = countOf (ws s) in
     let ns : List (List ℕ) = map (nodeAt (page s)) (slots (ws s)) in
     let el : List ℕ = block 8 (page s) 4056 in
-    let left = record-given (answer s) (log s) (w s) (65 + 32 * n) (bytes s) (at k) (Open (at k + (65 + 32 * past .before .before .count .result))) (tail .put-tail .last .0) (opened k)
+    let left = record-given (answer s) (log s) (w s) (65 + 32 * n) (bytes s) (at k) (openAt (at k + (65 + 32 * past .before .before .count .result))) (tail .put-tail .last .0) (opened k)
     (page-tests (log s) (w s) (ws s) (page s)
     ∙ taken (log s) (w s) (eqb (length (page s)) 4096) (reserved (ws s)) (65 + 32 * n) (given tt) (at k) (opened k) (fit (past .before .before .before .before .before)) (plain (past .before .before .before)) (roomy past))
-    (ap (λ (m : ℕ). Open (at k + (65 + 32 * m))) (counted past))
+    (ap (λ (m : ℕ). openAt (at k + (65 + 32 * m))) (counted past))
     (tail .put-tail .ensures .0
     ∙ ap (λ (m : ℕ). put (nodes .put-page-nodes .last .0) (at k + (65 + 32 * m - 16)) (read .block-8 .result ++ bytesOf 8 (s .args .bucket))) (counted past)
     ∙ ap (λ (e : List ℕ). put (nodes .put-page-nodes .last .0) (at k + (65 + 32 * n - 16)) (e ++ bytesOf 8 (s .args .bucket))) (read .block-8 .ensures)

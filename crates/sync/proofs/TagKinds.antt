@@ -1,0 +1,43 @@
+-- What a change has done says which kind its bucket's tag had before: full where it cleared or updated, empty or a tombstone where it allocated.
+-- Assumes nothing.
+use mathlib.Core.Path.{_≡_, refl, sym, ap, _∙_}
+use mathlib.Core.Bool.{Bool, true, cond}
+use mathlib.Core.List.{List}
+use Prim.Native.Nat.{ℕ}
+use lib.ListN.{length, getD}
+use borrow.Author.Tests.{eqb-true}
+use Rattle.answers.specs.Answers.{given, refused}
+use Rattle.meta_map.specs.Tags.{Kind, full, isKind, kindOf, fullTag}
+use Rattle.meta_map.proofs.Laws.{full-tag-kind}
+use Rattle.page_diff.specs.Diff.{marked}
+use Rattle.probe.specs.Path.{allocating, hitLimit}
+use Rattle.probe.proofs.Promises.{AllocatedAt, allocated-bucket}
+use Rattle.sync.specs.Change.{Mem, clears, updates, Does, doesOf, Effect, cleared, updated, allocated, kindBefore, kindTaken, effectOf}
+use Rattle.sync.specs.declared.Change.{Change}
+use Rattle.sync.specs.declared.SyncState.{SyncState}
+use Rattle.sync.proofs.Accepted.{after-cleared, after-updated, after-allocated, accepted-change}
+use Rattle.sync.proofs.Plans.{Told, as-clear, as-update, does-told}
+
+module _ (st : SyncState) (m : Mem) (page : List ℕ) (c : Change) where
+  abbrev plan : Does → Type 0
+  plan d = Told (st .n) (m .tags) (c .hash) (marked (c .diff .words) 127) d
+
+  clear-full : (b : ℕ) → plan (clears b) → isKind full (kindOf (getD (m .tags) b 0)) ≡ true
+  clear-full b (as-clear l s q) = q
+
+  update-full : (b : ℕ) → plan (updates b) → isKind full (kindOf (getD (m .tags) b 0)) ≡ true
+  update-full b (as-update l s q) =
+      ap (λ (t : ℕ). isKind full (kindOf t)) (eqb-true (getD (m .tags) b 0) (fullTag (c .hash)) q) ∙ ap (isKind full) (full-tag-kind (c .hash))
+
+  pub kind-taken : (e : Effect) → effectOf st m page c ≡ given e → kindTaken e (kindBefore e (m .tags)) ≡ true
+  kind-taken (cleared b) h =
+      let a = accepted-change st m page c (cleared b) h in
+      clear-full b (does-told (st .n) (m .tags) (m .cells) c (clears b) (after-cleared st m c (doesOf (st .n) (m .tags) (m .cells) c) b (a .2) .0))
+  kind-taken (updated b) h =
+      let a = accepted-change st m page c (updated b) h in
+      update-full b (does-told (st .n) (m .tags) (m .cells) c (updates b) (after-updated st m c (doesOf (st .n) (m .tags) (m .cells) c) b (a .2) .0))
+  kind-taken (allocated b) h =
+      let a = accepted-change st m page c (allocated b) h in
+      let g = after-allocated st m c (doesOf (st .n) (m .tags) (m .cells) c) b (a .2) .2 in
+      let r = allocated-bucket hitLimit (m .tags) (st .n) (c .hash) b (ap (λ (t : Bool). cond t (allocating hitLimit (m .tags) (st .n) (c .hash)) (refused 1)) (a .0) ∙ g) in
+      r .1 .was-free
