@@ -13,7 +13,13 @@ use model::{diff::Diff, places::length_of, PAGE};
 /// The seed of the list that is kept. Another one gives another list of the same kind.
 pub const SEED: u64 = 8;
 
-const WORDS: usize = 8;
+/// How many words a line has room for.
+const INPUTS: usize = 10;
+const ANSWERS: usize = 6;
+
+/// The memories that lines fill: tables, pages and markers stand in the first, logs in the second.
+const TABLE: u64 = 0;
+const LOG: u64 = 1;
 
 /// The answer as a refusal, 0 for none, and what was answered.
 fn heard<O: Op>(input: O::Input) -> Option<(u64, Out)> {
@@ -45,14 +51,39 @@ fn split(d: Diff) -> [u64; 2] {
     crate::input::words(d)
 }
 
-/// Prints a line: a name, the operation's number, and words.
-fn line(name: &str, operation: u64, words: &[&[u64]]) {
-    let mut all = vec![operation];
-    all.extend(words.concat());
-    assert!(all.len() <= WORDS && name.len() <= 16, "{name} fits a line");
-    all.resize(WORDS, 0);
-    let words: Vec<String> = all.iter().map(|w| format!("{w:016x}")).collect();
-    println!("{name:<16} {}", words.join(" "));
+/// A word as a line has it: decimal where it is short, else hexadecimal with an x before it.
+fn spelled(word: &u64) -> String {
+    if *word < 65536 {
+        format!("{word}")
+    } else {
+        format!("x{word:x}")
+    }
+}
+
+/// Prints a line: the operation's number, its inputs, the answer, and a name.
+fn line(name: &str, operation: u64, inputs: &[&[u64]], answer: &[&[u64]]) {
+    let (inputs, mut answer) = (inputs.concat(), answer.concat());
+    assert!(inputs.len() <= INPUTS && answer.len() <= ANSWERS, "{name} fits a line");
+    while answer.len() > 1 && answer.last() == Some(&0) {
+        answer.pop();
+    }
+    println!("{} : {} # {name}", numbers(operation, &inputs), numbers_of(&answer));
+}
+
+/// Prints lines that write words of eight bytes into a memory, from a place on.
+fn put(name: &str, memory: u64, at: u64, words: &[u64]) {
+    for (i, &word) in words.iter().enumerate() {
+        let to = at + 8 * i as u64;
+        println!("{} # {name}", numbers(17, &[memory, to, 1, 0, word, 0]));
+    }
+}
+
+fn numbers(operation: u64, words: &[u64]) -> String {
+    numbers_of(&[&[operation], words].concat())
+}
+
+fn numbers_of(words: &[u64]) -> String {
+    words.iter().map(spelled).collect::<Vec<_>>().join(" ")
 }
 
 /// The refusal and two words that are zero where it is refused.
@@ -78,34 +109,34 @@ fn diffs(rng: &mut Rng) {
         let w = split(d);
         use diff::{DiffOp, Input::*};
         if let Some((number, out)) = heard::<DiffOp>(Read(d)) {
-            line("diff read", 1, &[&w, &two(number, &out)]);
+            line("diff read", 1, &[&w], &[&two(number, &out)]);
         }
         for slot in [0, 63, 64, 125, rng.below(126)] {
             if let Some((number, out)) = heard::<DiffOp>(Set(d, slot)) {
-                line("diff set", 2, &[&w, &[slot], &two(number, &out)]);
+                line("diff set", 2, &[&w, &[slot]], &[&two(number, &out)]);
             }
         }
         for slot in [0, 125, 126, 127, rng.below(128)] {
             if let Some((number, out)) = heard::<DiffOp>(Ask(d, slot)) {
-                line("diff ask", 3, &[&w, &[slot, number, is(&out, "yes")]]);
+                line("diff ask", 3, &[&w, &[slot]], &[&[number, is(&out, "yes")]]);
             }
         }
         if let Some((_, out)) = heard::<DiffOp>(SetCleared(d)) {
-            line("diff set cleared", 4, &[&w, &values(&out)]);
+            line("diff set cleared", 4, &[&w], &[&values(&out)]);
         }
         if let Some((_, out)) = heard::<DiffOp>(Cleared(d)) {
-            line("diff cleared", 5, &[&w, &[is(&out, "yes")]]);
+            line("diff cleared", 5, &[&w], &[&[is(&out, "yes")]]);
         }
         if let Some((_, out)) = heard::<DiffOp>(Count(d)) {
-            line("diff count", 6, &[&w, &values(&out)]);
+            line("diff count", 6, &[&w], &[&values(&out)]);
         }
         let other = some[(i + 5) % some.len()];
         if let Some((_, out)) = heard::<DiffOp>(Join(d, other)) {
-            line("diff join", 7, &[&w, &split(other), &values(&out)]);
+            line("diff join", 7, &[&w, &split(other)], &[&values(&out)]);
         }
         if let Some((_, out)) = heard::<DiffOp>(Bytes(d)) {
             let bytes = &out.bytes[0].1;
-            line("diff bytes", 8, &[&w, &[word(bytes, 0), word(bytes, 8)]]);
+            line("diff bytes", 8, &[&w], &[&[word(bytes, 0), word(bytes, 8)]]);
         }
     }
 }
@@ -116,18 +147,18 @@ fn bytes_of_tags(rng: &mut Rng) {
     hashes.extend((0..5).map(|_| rng.next()));
     for hash in hashes {
         if let Some((_, out)) = heard::<TagOp>(FullTag(hash)) {
-            line("full tag", 9, &[&[hash], &values(&out)]);
+            line("full tag", 9, &[&[hash]], &[&values(&out)]);
         }
         let full = (128 + (hash >> 57)) as u8;
         for tag in [0, 0x7F, full, full ^ 1, rng.pick(&TAGS)] {
             if let Some((_, out)) = heard::<TagOp>(Hints(tag, hash)) {
-                line("tag hints", 10, &[&[tag as u64, hash], &values(&out)]);
+                line("tag hints", 10, &[&[tag as u64, hash]], &[&values(&out)]);
             }
         }
     }
     for bucket in [0, 4095, 4096, 8191, 1_048_575, rng.below(1 << 20)] {
         if let Some((_, out)) = heard::<TagOp>(TagPage(bucket)) {
-            line("tag page", 13, &[&[bucket], &values(&out)]);
+            line("tag page", 13, &[&[bucket]], &[&values(&out)]);
         }
     }
 }
@@ -137,11 +168,11 @@ fn lengths(rng: &mut Rng) {
     for n in [1, 2, 4095, 4096, 4097, 8192, 8193, 1_048_575, 1_048_576, rng.within(1, 1 << 20)] {
         if let (Some((a, pages)), Some((b, length))) = (heard::<PlaceOp>(TagPages(n)), heard::<PlaceOp>(Length(n))) {
             assert!(a == b);
-            line("places", 11, &[&[n, a], &values(&pages), &values(&length)]);
+            line("places", 11, &[&[n]], &[&[a], &values(&pages), &values(&length)]);
         }
         for bucket in [0, n - 1, rng.below(n)] {
             if let Some((number, out)) = heard::<PlaceOp>(PageNumber(n, bucket)) {
-                line("page number", 12, &[&[n, bucket], &one(number, &out)]);
+                line("page number", 12, &[&[n, bucket]], &[&one(number, &out)]);
             }
         }
     }
@@ -169,14 +200,16 @@ fn paths(rng: &mut Rng) {
         let k = rng.below(2 * n);
         if let Some((0, out)) = heard::<PathOp>(Probe(table.clone(), hash, k)) {
             let kind = is(&out, "tombstone") + 2 * is(&out, "hit") + 3 * is(&out, "closed");
-            line("probe", 14, &[&[n, word(&tags, 0), hash, k, kind], &values(&out)]);
+            put("tags", TABLE, 0, &[word(&tags, 0)]);
+            line("probe", 28, &[&[n, PAGE as u64, hash, k]], &[&[kind], &values(&out)]);
         }
         if let Some((number, out)) = heard::<PathOp>(Allocate(table, Label { hash, free: 1 })) {
             let after = match out.bytes.first() {
                 Some((_, after)) => word(&after[..n as usize], 0),
                 None => word(&tags, 0),
             };
-            line("allocate", 15, &[&[n, word(&tags, 0), hash], &one(number, &out), &[after]]);
+            put("tags", TABLE, 0, &[word(&tags, 0)]);
+            line("allocate", 29, &[&[n, PAGE as u64, hash]], &[&one(number, &out), &[after]]);
         }
     }
 }
@@ -214,17 +247,16 @@ fn logs(rng: &mut Rng) {
         let bytes = log.bytes();
         assert!(bytes.len() == PAGE);
         let used = bytes.iter().rposition(|&b| b != 0).map_or(0, |last| last + 1);
-        // A line at 0 empties the log before.
-        for at in (0..used.max(1)).step_by(48) {
-            let words: Vec<u64> = (0..6).map(|i| word(&bytes, at + 8 * i)).collect();
-            line("log bytes", 17, &[&[at as u64], &words]);
+        println!("{} # log emptied", numbers(16, &[LOG, 0, PAGE as u64, 1, 0, 0]));
+        for at in (0..used).step_by(8).filter(|&at| word(&bytes, at) != 0) {
+            put("log bytes", LOG, at as u64, &[word(&bytes, at)]);
         }
         if let Some((number, out)) = heard::<ReadOp>(Set(log.clone())) {
-            line("reader set", 18, &[&[PAGE as u64], &one(number, &out)]);
+            line("reader set", 40, &[&[PAGE as u64]], &[&one(number, &out)]);
         }
         let cut = Log { cut: Some(PAGE - 1), ..log.clone() };
         if let Some((number, out)) = heard::<ReadOp>(Set(cut)) {
-            line("reader set", 18, &[&[PAGE as u64 - 1], &one(number, &out)]);
+            line("reader set", 40, &[&[PAGE as u64 - 1]], &[&one(number, &out)]);
         }
         let mut at = model::reader::FIRST;
         while let Some((number, out)) = heard::<ReadOp>(Next(log.clone(), at)) {
@@ -235,7 +267,7 @@ fn logs(rng: &mut Rng) {
                 (0, [bucket, lo, hi, next]) => ([0, 2, *bucket, *next, *lo, *hi], Some(*next)),
                 _ => ([number, 0, 0, at, 0, 0], None),
             };
-            line("reader next", 19, &[&[at], &answer]);
+            line("reader next", 41, &[&[PAGE as u64, at]], &[&answer]);
             if answer[1] == 2 {
                 parts(at, &out.bytes[0].1);
             }
@@ -247,7 +279,7 @@ fn logs(rng: &mut Rng) {
         // At places where no entry stands.
         for at in [0, rng.below(used.max(1) as u64), PAGE as u64 - 1, PAGE as u64] {
             if let Some((number @ 1.., _)) = heard::<ReadOp>(Next(log.clone(), at)) {
-                line("reader next", 19, &[&[at, number, 0, 0, at]]);
+                line("reader next", 41, &[&[PAGE as u64, at]], &[&[number, 0, 0, at]]);
             }
         }
     }
@@ -263,7 +295,7 @@ fn parts(at: u64, entry: &[u8]) {
         asked.extend([(1, 0, word(nodes, 0)), (1, last as u64, word(nodes, 8 * last))]);
     }
     for (part, index, word) in asked {
-        line("update part", 20, &[&[at, part, index, word]]);
+        line("update part", 42, &[&[PAGE as u64, at, part, index]], &[&[word]]);
     }
 }
 
@@ -272,7 +304,7 @@ fn markers(rng: &mut Rng) {
     for (old, new) in [(4, 8), (0, 1), (u32::MAX - 1, u32::MAX), (1, 1 << 20), (7, rng.within(8, 1 << 31) as u32)] {
         if let Some((0, out)) = heard::<GrowthOp>(WriteMarker(old, new)) {
             let bytes = &out.bytes[0].1;
-            line("marker write", 21, &[&[old as u64, new as u64, 0, word(bytes, 0), word(bytes, 8)]]);
+            line("marker write", 14, &[&[old as u64, new as u64]], &[&[0, word(bytes, 0), word(bytes, 8)]]);
         }
     }
     let mut good = b"NOMTRH1\0".to_vec();
@@ -285,15 +317,15 @@ fn markers(rng: &mut Rng) {
     }
     for bytes in some {
         if let Some((number, out)) = heard::<GrowthOp>(ReadMarker(Bytes(bytes.clone()))) {
-            let words = [bytes.len() as u64, word(&bytes, 0), word(&bytes, 8)];
-            line("marker read", 22, &[&words, &two(number, &out)]);
+            put("marker", TABLE, 0, &[word(&bytes, 0), word(&bytes, 8)]);
+            line("marker read", 37, &[&[bytes.len() as u64]], &[&two(number, &out)]);
         }
     }
     for (old, new) in [(4, 8), (0, 3), (4096, 4097), (1000, 1 << 20)] {
         for meta in [old, new, old + 1] {
             for file in [length_of(old), length_of(new), length_of(new) + 1] {
                 if let Some((number, out)) = heard::<GrowthOp>(Pending(meta, file, old, new)) {
-                    line("pending", 23, &[&[old, new, meta, file, number, is(&out, "update meta")]]);
+                    line("pending", 15, &[&[old, new, meta, file]], &[&[number, is(&out, "update meta")]]);
                 }
             }
         }

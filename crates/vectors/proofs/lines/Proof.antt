@@ -1,49 +1,59 @@
--- The count of lines, and no more answers counted than lines. Assumes nothing.
 use mathlib.Core.Path.{_≡_}
-use Prim.Native.Nat.{_-_, _≤_}
+use Prim.Native.Nat.{ℕ, _+_, _-_, _*_, _≤_, _<_}
 use lib.ListN.{length}
+use native.Mathlib.Omega.{arith}
 use borrow.Author.Needs.{needs}
 use Rattle.vectors.proofs.lines.Statement.{statement}
 use Rattle.vectors.proofs.lines.Tie as tie
+use Rattle.vectors.proofs.lines.Reads as reads
+use Rattle.vectors.proofs.lines.Lts as lts
+use Rattle.vectors.proofs.line.Reads as line-reads
 
 abbrev Inv-loop : tie.InvT-loop
-Inv-loop log₀ line₀ count₀ at₀ log line count at = (at ≤ 100000) × (count .answers ≤ at) × (count .differ ≤ at) × (length line ≡ 153)
+Inv-loop text a₀ b₀ c₀ m₀ next₀ i₀ a b c m next i = (i ≤ length text) × (length a ≡ length a₀) × (length b ≡ length b₀) × (length c ≡ length c₀) × (length m ≡ length m₀)
 
 abbrev μ-loop : tie.MeasureT-loop
-μ-loop log₀ line₀ count₀ at₀ log line count at = 100000 - at
+μ-loop text a₀ b₀ c₀ m₀ next₀ i₀ a b c m next i = length text - i
 
-page-requires : tie.Need-page-requires Inv-loop μ-loop
-page-requires c κs = search needs
-
+-- src/main.rt:818:5
 loop-holds : tie.Need-loop-holds Inv-loop μ-loop
 loop-holds c = search needs
 
-slice-aggregate-read-full : tie.Need-slice-aggregate-read-full Inv-loop μ-loop
-slice-aggregate-read-full c = search needs
+-- src/main.rt:819:9
+line-requires : tie.Need-line-requires Inv-loop μ-loop
+line-requires c κs = search needs
 
-read-full-requires : tie.Need-read-full-requires Inv-loop μ-loop
-read-full-requires c κs = search needs
+-- src/main.rt:820:9
+add-i : tie.Need-add-i Inv-loop μ-loop
+add-i c = search needs
 
-returns : tie.Need-returns Inv-loop μ-loop
-returns c = search needs
-
-slice-aggregate-replay : tie.Need-slice-aggregate-replay Inv-loop μ-loop
-slice-aggregate-replay c = search needs
-
-replay-requires : tie.Need-replay-requires Inv-loop μ-loop
-replay-requires c κs = search needs
-
-add-at : tie.Need-add-at Inv-loop μ-loop
-add-at c = search needs
-
+-- src/main.rt:818:5
 loop-less : tie.Need-loop-less Inv-loop μ-loop
 loop-less c = search needs
 
+-- src/main.rt:818:5
 loop-again : tie.Need-loop-again Inv-loop μ-loop
 loop-again c = search needs
 
-returns-2 : tie.Need-returns-2 Inv-loop μ-loop
-returns-2 c = search needs
+-- src/main.rt:811:1
+same-length : tie.Need-same-length Inv-loop μ-loop
+same-length c = search needs
+
+-- src/main.rt:811:1
+same-length-2 : tie.Need-same-length-2 Inv-loop μ-loop
+same-length-2 c = search needs
+
+-- src/main.rt:811:1
+same-length-3 : tie.Need-same-length-3 Inv-loop μ-loop
+same-length-3 c = search needs
+
+-- src/main.rt:811:1
+same-length-4 : tie.Need-same-length-4 Inv-loop μ-loop
+same-length-4 c = search needs
+
+-- src/main.rt:811:1
+returns : tie.Need-returns Inv-loop μ-loop
+returns c = search needs
 
 pub lines-spec : {M : Type 1} → statement M
 lines-spec =
@@ -51,14 +61,13 @@ lines-spec =
     (tie.spec
     Inv-loop
     μ-loop
-    page-requires
     loop-holds
-    slice-aggregate-read-full
-    read-full-requires
-    returns
-    slice-aggregate-replay
-    replay-requires
-    add-at
+    line-requires
+    add-i
     loop-less
     loop-again
-    returns-2)
+    same-length
+    same-length-2
+    same-length-3
+    same-length-4
+    returns)
