@@ -4,7 +4,7 @@
 
 use crate::{
     input::{hash_at, Bytes, Label, Log, Record, Table, TAGS},
-    ops::{diff, growth, path, places, read, tags},
+    ops::{audit, diff, growth, path, places, read, replay, tags},
     rng::Rng,
     run::{agreed, Op, Out, Said},
 };
@@ -17,9 +17,11 @@ pub const SEED: u64 = 8;
 const INPUTS: usize = 10;
 const ANSWERS: usize = 6;
 
-/// The memories that lines fill: tables, pages and markers stand in the first, logs in the second.
+/// The memories that lines fill: tables, pages and markers stand in the first, logs in the second, hashes in the
+/// last.
 const TABLE: u64 = 0;
 const LOG: u64 = 1;
+const HASHES: u64 = 3;
 
 /// The answer as a refusal, 0 for none, and what was answered.
 fn heard<O: Op>(input: O::Input) -> Option<(u64, Out)> {
@@ -68,6 +70,27 @@ fn line(name: &str, operation: u64, inputs: &[&[u64]], answer: &[&[u64]]) {
         answer.pop();
     }
     println!("{} : {} # {name}", numbers(operation, &inputs), numbers_of(&answer));
+}
+
+/// Prints lines that make the start of a memory these bytes: zeros first, then the words that are not.
+fn load(name: &str, memory: u64, bytes: &[u8]) {
+    println!("{} # {name}", numbers(16, &[memory, 0, bytes.len() as u64, 1, 0, 0]));
+    for at in (0..bytes.len()).step_by(8).filter(|&at| word(bytes, at) != 0) {
+        put(name, memory, at as u64, &[word(bytes, at)]);
+    }
+}
+
+/// Prints a line with the sum over the start of a memory.
+fn sum(name: &str, memory: u64, bytes: &[u8]) {
+    let sum = bytes.iter().fold(0, |sum, &b| (31 * sum + b as u64) % 1_000_003);
+    line(name, 21, &[&[memory, bytes.len() as u64]], &[&[sum]]);
+}
+
+/// Prints lines that put hashes into their memory.
+fn lend(hashes: &[u64]) {
+    for (i, &hash) in hashes.iter().enumerate() {
+        println!("{} # hash", numbers(17, &[HASHES, i as u64, 1, 1, hash, 0]));
+    }
 }
 
 /// Prints lines that write words of eight bytes into a memory, from a place on.
@@ -247,10 +270,7 @@ fn logs(rng: &mut Rng) {
         let bytes = log.bytes();
         assert!(bytes.len() == PAGE);
         let used = bytes.iter().rposition(|&b| b != 0).map_or(0, |last| last + 1);
-        println!("{} # log emptied", numbers(16, &[LOG, 0, PAGE as u64, 1, 0, 0]));
-        for at in (0..used).step_by(8).filter(|&at| word(&bytes, at) != 0) {
-            put("log bytes", LOG, at as u64, &[word(&bytes, at)]);
-        }
+        load("log", LOG, &bytes);
         if let Some((number, out)) = heard::<ReadOp>(Set(log.clone())) {
             line("reader set", 40, &[&[PAGE as u64]], &[&one(number, &out)]);
         }
@@ -332,6 +352,121 @@ fn markers(rng: &mut Rng) {
     }
 }
 
+/// Nodes packed from a page, and put into another. The page that they are from stands in the second memory.
+fn pages(rng: &mut Rng) {
+    use diff::{DiffOp, Input::*};
+    let page = crate::input::page(rng.next());
+    load("page", TABLE, &page.bytes());
+    for d in [Diff(0), Diff(1), Diff(1 << 125), Diff(3 << 63), Diff((1 << 126) - 1), crate::input::any_diff(rng)] {
+        let Some((number, out)) = heard::<DiffOp>(Pack(d, page)) else { continue };
+        let nodes = out.bytes.first().map_or(&[][..], |(_, nodes)| &nodes[..]);
+        for index in [0, 4 * d.count().saturating_sub(1), 4 * d.count() + 3, 503] {
+            let said = [number, values(&out).first().copied().unwrap_or(0), word(nodes, 8 * index as usize)];
+            line("pack", 35, &[&[PAGE as u64], &split(d), &[index]], &[&said]);
+        }
+    }
+    for slots in [vec![], vec![0], vec![125], vec![3, 64], vec![63, 64, 65]] {
+        let d = Diff(slots.iter().fold(0, |marks, &slot: &usize| marks | 1 << slot));
+        let (with, page) = (rng.next(), crate::input::page(0));
+        let Some((number, out)) = heard::<DiffOp>(Unpack(d, with, d.count(), page)) else { continue };
+        let mut nodes = vec![0; 32 * slots.len()];
+        crate::input::fill(&mut nodes, with);
+        let mut from = vec![0; PAGE];
+        for (node, &slot) in nodes.chunks(32).zip(&slots) {
+            from[32 * slot..][..32].copy_from_slice(node);
+        }
+        load("page of the nodes", LOG, &from);
+        load("page", TABLE, &page.bytes());
+        line("unpack", 36, &[&[PAGE as u64], &split(d), &[d.count()]], &[&[number]]);
+        sum("page after", TABLE, &out.bytes[0].1);
+    }
+}
+
+/// A table of labelled pages, most of them where their hash has them first.
+fn labelled(n: u64, rng: &mut Rng) -> Table {
+    let mut tags = vec![0; n as usize];
+    let mut table = Table::new(n, &[]);
+    for bucket in 0..n {
+        match rng.below(4) {
+            0 => tags[bucket as usize] = rng.pick(&[0, 0x7F]),
+            kind => {
+                let hash = hash_at(rng.below(128), if kind == 1 { rng.below(n) } else { bucket }, n);
+                tags[bucket as usize] = (128 + (hash >> 57)) as u8;
+                table.labels.insert(bucket, Label { hash, free: rng.below(3) });
+            }
+        }
+    }
+    table.tags = Bytes(tags);
+    table
+}
+
+fn tables(rng: &mut Rng) {
+    for round in 0..12 {
+        let table = labelled(1 + round % 6, rng);
+        let (image, hashes) = (table.image(), table.hashes());
+        let audited = heard::<audit::AuditOp>(audit::Input { table: table.clone(), hashes_more: 0, foreign: false });
+        let grown = growth::Growth::new(table.clone(), table.n + rng.below(3));
+        let new = vec![grown.new_with; length_of(grown.new_n) as usize];
+        let grown = heard::<growth::GrowthOp>(growth::Input::Grow(grown)).map(|grown| (grown, new));
+        if audited.is_none() && grown.is_none() {
+            continue;
+        }
+        load("table", TABLE, &image);
+        lend(&hashes);
+        let lent = [table.n, image.len() as u64];
+        if let Some((number, out)) = audited {
+            line("audit", 57, &[&lent, &[hashes.len() as u64]], &[&[number], &values(&out)]);
+        }
+        if let Some(((number, out), before)) = grown {
+            let new = [(before.len() - PAGE) as u64 / PAGE as u64, before.len() as u64];
+            println!("{} # new table", numbers(16, &[LOG, 0, new[1], 1, before[0] as u64, 0]));
+            let said = [number, is(&out, "nothing to do")];
+            line("growth", 56, &[&lent, &new, &[hashes.len() as u64]], &[&said]);
+            if let Some((_, after)) = out.bytes.first() {
+                sum("new table after", LOG, after);
+            }
+        }
+    }
+}
+
+fn replays(rng: &mut Rng) {
+    let update = |n: u64, rng: &mut Rng| Record::Update {
+        label: Label { hash: rng.next(), free: rng.below(3) },
+        diff: Diff(1 << rng.below(126) | 1 << rng.below(126)),
+        with: rng.next(),
+        bucket: rng.below(n),
+    };
+    for round in 0..10 {
+        let table = labelled(1 + round % 4, rng);
+        let records: Vec<Record> = (0..rng.below(5))
+            .map(|_| match rng.below(3) {
+                0 => Record::Clear(rng.below(table.n)),
+                _ => update(table.n, rng),
+            })
+            .chain([if round == 7 { Record::Byte(9) } else { Record::End }])
+            .collect();
+        let log = Log::new(round as u32, &records);
+        let mut input = replay::Input::new(table.clone(), log.clone());
+        input.sync += (round == 5) as u32;
+        let (image, log) = (table.image(), log.bytes());
+        let hashes = crate::input::log_hashes(&log);
+        let sync = input.sync as u64;
+        let Some((number, out)) = heard::<replay::ReplayOp>(input) else { continue };
+        load("table", TABLE, &image);
+        load("log", LOG, &log);
+        lend(&hashes);
+        let said = match number {
+            0 => [is(&out, "stale") + 2 * is(&out, "applied"), 0],
+            _ => [3, number],
+        };
+        let lent = [table.n, image.len() as u64, log.len() as u64, sync, hashes.len() as u64];
+        line("replay", 58, &[&lent], &[&said]);
+        if let Some((_, after)) = out.bytes.first() {
+            sum("table after", TABLE, after);
+        }
+    }
+}
+
 pub fn print() {
     let mut rng = Rng(SEED);
     diffs(&mut rng);
@@ -340,4 +475,7 @@ pub fn print() {
     paths(&mut rng);
     logs(&mut rng);
     markers(&mut rng);
+    pages(&mut rng);
+    tables(&mut rng);
+    replays(&mut rng);
 }

@@ -1,6 +1,6 @@
 // A list of cases, run: each line of the standard input is a call with its inputs and the answer that is due,
 // the original's or one worked out from document 01 apart from this code (docs/VECTORS.md). What ours answers
-// is held to it; a line that differs is told. Bytes and words that calls are lent stand in four memories,
+// is held to it; a line that differs is told. Bytes and words that calls are lent stand in three memories,
 // which other lines fill.
 ghost use Prim.Native.Nat.{_≤_, _<_};
 ghost use lib.ListN.{length};
@@ -9,6 +9,9 @@ use answers::Outcome;
 use answers::Refusal;
 use answers::Truth;
 use page_diff::Diff;
+use recover::Recovered;
+use recover::Stepped;
+use wal::Writer;
 
 // The words of a line: the operation, its inputs, and from ANSWER on what is due. The last is for what is not
 // read.
@@ -96,10 +99,6 @@ fn put_word(ws: &mut [u64], i: usize, x: u64) {
     if i < ws.len() {
         ws[i] = x;
     }
-}
-
-fn size(ws: &[u64], i: usize) -> usize {
-    word(ws, i) as usize
 }
 
 // The first n of a slice, or all of a shorter one.
@@ -208,24 +207,57 @@ fn scan(text: &[u8], at: usize, ws: &mut [u64]) -> usize {
     i
 }
 
-// Whether the answer due is this one.
-fn same(ws: &[u64], s: Words) -> bool {
-    if word(ws, ANSWER) != s.a {
+// What a call is given.
+struct In {
+    op: u64,
+    a: u64,
+    b: u64,
+    c: u64,
+    d: u64,
+    e: u64,
+    f: u64,
+    g: u64,
+}
+
+fn no_words() -> [u64; 20] {
+    [0; WORDS]
+}
+
+fn given(ws: [u64; 20]) -> In {
+    In {
+        op: ws[0],
+        a: ws[1],
+        b: ws[2],
+        c: ws[3],
+        d: ws[4],
+        e: ws[5],
+        f: ws[6],
+        g: ws[7],
+    }
+}
+
+// The answer that is due.
+fn due(ws: [u64; 20]) -> Words {
+    said6(ws[12], ws[13], ws[14], ws[15], ws[16], ws[17])
+}
+
+fn same(r: Words, s: Words) -> bool {
+    if r.a != s.a {
         return false;
     }
-    if word(ws, ANSWER + 1) != s.b {
+    if r.b != s.b {
         return false;
     }
-    if word(ws, ANSWER + 2) != s.c {
+    if r.c != s.c {
         return false;
     }
-    if word(ws, ANSWER + 3) != s.d {
+    if r.d != s.d {
         return false;
     }
-    if word(ws, ANSWER + 4) != s.e {
+    if r.e != s.e {
         return false;
     }
-    word(ws, ANSWER + 5) == s.f
+    r.f == s.f
 }
 
 // ---- 1 to 15: words alone
@@ -311,13 +343,11 @@ fn of_diffs(op: u64, d: Diff, slot: u64, other: u64) -> Words {
     }
 }
 
-fn words_alone(ws: &[u64], op: u64) -> Words {
-    let a = word(ws, 1);
-    let b = word(ws, 2);
-    if op < 9 {
-        return of_diffs(op, diff(a, b), word(ws, 3), word(ws, 4));
+fn words_alone(w: In) -> Words {
+    if w.op < 9 {
+        return of_diffs(w.op, diff(w.a, w.b), w.c, w.d);
     }
-    of_words(op, a, b, word(ws, 3), word(ws, 4))
+    of_words(w.op, w.a, w.b, w.c, w.d)
 }
 
 // ---- 16 to 22: the memories
@@ -414,70 +444,64 @@ fn weighed(s: &[u8]) -> u64 {
     sum
 }
 
-fn byte_at(s: &[u8], ws: &[u64], i: usize) -> u64 {
-    wide(byte(s, size(ws, i)))
+fn byte_at(s: &[u8], i: u64) -> u64 {
+    wide(byte(s, i as usize))
 }
 
-fn look(s: &[u8], ws: &[u64]) -> Words {
+fn look(s: &[u8], w: In) -> Words {
     said6(
-        byte_at(s, ws, 2),
-        byte_at(s, ws, 3),
-        byte_at(s, ws, 4),
-        byte_at(s, ws, 5),
-        byte_at(s, ws, 6),
-        byte_at(s, ws, 7),
+        byte_at(s, w.b),
+        byte_at(s, w.c),
+        byte_at(s, w.d),
+        byte_at(s, w.e),
+        byte_at(s, w.f),
+        byte_at(s, w.g),
     )
 }
 
-fn seen(ws: &[u64], op: u64, s: &[u8]) -> Words {
+fn seen(w: In, s: &[u8]) -> Words {
+    let op = w.op;
     match op {
-        19 => look(s, ws),
-        20 => one(others(part(s, size(ws, 2)), low_byte(word(ws, 3)))),
-        21 => one(weighed(part(s, size(ws, 2)))),
-        _ => one(blocks::read_u64(s, size(ws, 2))),
+        19 => look(s, w),
+        20 => one(others(part(s, w.b as usize), low_byte(w.c))),
+        21 => one(weighed(part(s, w.b as usize))),
+        _ => one(blocks::read_u64(s, w.b as usize)),
     }
 }
 
-fn filled(ws: &[u64], op: u64, s: &mut [u8]) {
-    let at = size(ws, 2);
-    let count = size(ws, 3);
-    let value = word(ws, 5);
+fn filled(w: In, s: &mut [u8]) {
+    let at = w.b as usize;
+    let count = w.c as usize;
+    let op = w.op;
     match op {
-        16 => fill(s, at, count, size(ws, 4), value, word(ws, 6)),
-        17 => fill_words(s, at, count, size(ws, 4), value, word(ws, 6)),
-        _ => mingle(s, at, count, word(ws, 4), size(ws, 5)),
+        16 => fill(s, at, count, w.d as usize, w.e, w.f),
+        17 => fill_words(s, at, count, w.d as usize, w.e, w.f),
+        _ => mingle(s, at, count, w.d, w.e as usize),
     }
 }
 
-fn on_bytes(ws: &[u64], op: u64, s: &mut [u8]) -> Words {
-    if op < 19 {
-        filled(ws, op, s);
+fn on_bytes(w: In, s: &mut [u8]) -> Words {
+    if w.op < 19 {
+        filled(w, s);
         return one(0);
     }
-    seen(ws, op, s)
+    seen(w, s)
 }
 
-fn on_cells(ws: &[u64], op: u64, c: &mut [u64]) -> Words {
-    if op < 19 {
-        fill_cells(c, size(ws, 2), size(ws, 3), word(ws, 5), word(ws, 6));
+fn on_cells(w: In, c: &mut [u64]) -> Words {
+    if w.op < 19 {
+        fill_cells(c, w.b as usize, w.c as usize, w.e, w.f);
         return one(0);
     }
-    one(word(c, size(ws, 2)))
+    one(word(c, w.b as usize))
 }
 
-fn on_memory(
-    ws: &[u64],
-    op: u64,
-    a: &mut [u8],
-    b: &mut [u8],
-    c: &mut [u64],
-    m: &mut [u8],
-) -> Words {
-    match word(ws, 1) {
-        0 => on_bytes(ws, op, a),
-        1 => on_bytes(ws, op, b),
-        2 => on_bytes(ws, op, m),
-        _ => on_cells(ws, op, c),
+fn on_memory(w: In, a: &mut [u8], b: &mut [u8], c: &mut [u64]) -> Words {
+    let memory = w.a;
+    match memory {
+        0 => on_bytes(w, a),
+        1 => on_bytes(w, b),
+        _ => on_cells(w, c),
     }
 }
 
@@ -536,6 +560,217 @@ fn on_tags(op: u64, t: &mut [u8], n: usize, x: u64, y: u64) -> Words {
         29 => allocated(t, n, x),
         _ => asked(op, t, n, x, y),
     }
+}
+
+// ---- 23: every table of up to four buckets over five tags
+
+const HASHES: usize = 6;
+
+fn hash_at(i: usize) -> u64 {
+    match i {
+        0 => 0,
+        1 => 1,
+        2 => 5,
+        3 => 144115188075855872,
+        4 => 144115188075855875,
+        _ => 0xFFFF_FFFF_FFFF_FFFF,
+    }
+}
+
+fn tag_at(i: usize) -> u8 {
+    match i {
+        0 => 0x00,
+        1 => 0x7F,
+        2 => 0x01,
+        3 => 0x80,
+        _ => 0x81,
+    }
+}
+
+// The first tags become those of a table, by its digits in base five.
+fn set_table(tags: &mut [u8], table: usize) {
+    put(tags, 0, tag_at(table % 5));
+    put(tags, 1, tag_at(table / 5 % 5));
+    put(tags, 2, tag_at(table / 25 % 5));
+    put(tags, 3, tag_at(table / 125 % 5));
+}
+
+// How many cases a table and a hash have, by what is asked: allocation (0), probing on from eleven visits (1),
+// lookup with sixteen patterns of pages (2).
+fn ways(kind: u64) -> usize
+    ensures { λ r. ⌜ (0 < r) × (r ≤ 16) ⌝ }
+{
+    match kind {
+        0 => 1,
+        1 => 11,
+        _ => 16,
+    }
+}
+
+fn tables(n: usize) -> usize
+    ensures { λ r. ⌜ r ≤ 625 ⌝ }
+{
+    match n {
+        1 => 5,
+        2 => 25,
+        3 => 125,
+        _ => 625,
+    }
+}
+
+fn cases(kind: u64, n: usize) -> usize
+    ensures { λ r. ⌜ r ≤ 60000 ⌝ }
+{
+    let pairs = tables(n) * HASHES;
+    match kind {
+        0 => pairs,
+        1 => 11 * pairs,
+        _ => 16 * pairs,
+    }
+}
+
+fn next_tag(sum: u64, tag: u8) -> u64 {
+    sum % 65521 * 256 % 65521 + tag as u64
+}
+
+// The tags of n buckets as one number.
+fn tags_weighed(t: &[u8], n: usize) -> u64 {
+    let first = wide(byte(t, 0));
+    if n == 1 {
+        return first;
+    }
+    let second = next_tag(first, byte(t, 1));
+    if n == 2 {
+        return second;
+    }
+    let third = next_tag(second, byte(t, 2));
+    if n == 3 {
+        return third;
+    }
+    next_tag(third, byte(t, 3))
+}
+
+fn allocated_code(t: &mut [u8], n: usize, hash: u64) -> u64 {
+    let r = of_allocated(probe::allocate_bucket(t, n, hash), 0);
+    let weight = tags_weighed(t, n) % 100000 * 1024;
+    if r.a == 0 {
+        return r.b % 1024 + weight;
+    }
+    900 + r.a % 100 + weight
+}
+
+fn probed_code(r: Words) -> u64 {
+    if r.a < 3 {
+        return 1000 * (r.a + 1) + 100 * (r.b % 10) + r.c % 100;
+    }
+    801
+}
+
+fn found_code(r: Words) -> u64 {
+    if r.a == 0 {
+        return r.b;
+    }
+    if r.a == 1 { 800 } else { 801 }
+}
+
+// The visit to set out from: 0 to 9, or the largest number that can be lent.
+fn visit_at(i: usize) -> u64 {
+    if i < 10 {
+        return i as u64;
+    }
+    0xFFFF_FFFF_FFFF_FFFF
+}
+
+fn power(b: usize) -> usize
+    ensures { λ r. ⌜ 0 < r ⌝ }
+{
+    match b {
+        0 => 1,
+        1 => 2,
+        2 => 4,
+        _ => 8,
+    }
+}
+
+// A page ends in 32 bytes 0xAB where the pattern has its bit; else one of these is 0xAA.
+fn set_page(image: &mut [u8], page: usize, pattern: usize)
+    requires { ⌜ (page ≤ 3) × (pattern ≤ 16) ⌝ }
+{
+    let end = 8160 + 4096 * page;
+    fill(image, end, 32, 1, 0xAB, 0);
+    if pattern / power(page) % 2 == 0 {
+        put(image, end + (7 * page + pattern) % 32, 0xAA);
+    }
+}
+
+fn set_pages(image: &mut [u8], pattern: usize)
+    requires { ⌜ pattern ≤ 16 ⌝ }
+{
+    set_page(image, 0, pattern);
+    set_page(image, 1, pattern);
+    set_page(image, 2, pattern);
+    set_page(image, 3, pattern);
+}
+
+fn looked_up(image: &mut [u8], n: usize, hash: u64, pattern: usize) -> u64
+    requires { ⌜ (n ≤ 4) × (pattern ≤ 16) ⌝ }
+{
+    set_pages(image, pattern);
+    found_code(of_found(probe::lookup(part(image, 4096 * (1 + n)), n, hash, id_of(0xAB))))
+}
+
+fn tried(kind: u64, image: &mut [u8], n: usize, hash: u64, way: usize) -> u64
+    requires { ⌜ (n ≤ 4) × (way ≤ 16) ⌝ }
+{
+    match kind {
+        0 => allocated_code(lent(image, 4096), n, hash),
+        1 => probed_code(of_probed(probe::probe_from(part(image, 4096), n, hash, visit_at(way)))),
+        _ => looked_up(image, n, hash, way),
+    }
+}
+
+fn swept_case(kind: u64, n: usize, i: usize) -> u64
+    requires { ⌜ n ≤ 4 ⌝ }
+{
+    let each = ways(kind);
+    let mut image = [0u8; 20480];
+    set_table(&mut image, i / each / HASHES);
+    tried(
+        kind,
+        &mut image,
+        n,
+        hash_at(i / each % HASHES),
+        i % each % 16,
+    )
+}
+
+fn added(sum: u64, x: u64) -> u64
+    requires { ⌜ sum < 1000003 ⌝ }
+    ensures { λ r. ⌜ r < 1000003 ⌝ }
+{
+    (sum * 31 + x % 16777216) % 1000003
+}
+
+// How many cases there are of n buckets, and a sum over the answers in their order.
+fn swept(kind: u64, n: usize) -> Words
+    requires { ⌜ n ≤ 4 ⌝ }
+{
+    let count = cases(kind, n);
+    let mut sum: u64 = 0;
+    let mut i = 0;
+    while i < count {
+        sum = added(sum, swept_case(kind, n, i));
+        i += 1;
+    }
+    said(count as u64, sum, 0)
+}
+
+fn sweep(w: In) -> Words {
+    let n = w.b as usize;
+    if n <= 4 {
+        return swept(w.a, n);
+    }
+    one(0)
 }
 
 // ---- 33 to 37: blocks, pages and markers
@@ -598,35 +833,30 @@ fn of_marker(m: rehash::MarkerRead) -> Words {
     }
 }
 
-fn on_page(ws: &[u64], op: u64, s: &mut [u8], b: &[u8]) -> Words {
-    let d = diff(word(ws, 2), word(ws, 3));
+fn on_page(w: In, s: &mut [u8], b: &[u8]) -> Words {
+    let op = w.op;
     match op {
-        33 => block_read(s, size(ws, 2)),
-        35 => packed(d, s, word(ws, 4)),
-        36 => carried(d, size(ws, 4), part(b, 4096), s),
+        33 => block_read(s, w.b as usize),
+        35 => packed(diff(w.b, w.c), s, w.d),
+        36 => carried(diff(w.b, w.c), w.d as usize, part(b, 4096), s),
         _ => of_marker(rehash::read_marker(s)),
     }
 }
 
-fn written_block(ws: &[u64], s: &mut [u8]) -> Words {
-    block_write(s, size(ws, 2), word(ws, 3));
+fn written_block(w: In, s: &mut [u8]) -> Words {
+    block_write(s, w.b as usize, w.c);
     one(others(s, 1))
 }
 
-fn on_table(ws: &[u64], op: u64, a: &mut [u8], b: &[u8]) -> Words {
-    if op < 32 {
-        return on_tags(
-            op,
-            lent(a, size(ws, 2)),
-            size(ws, 1),
-            word(ws, 3),
-            word(ws, 4),
-        );
+fn on_table(w: In, a: &mut [u8], b: &[u8]) -> Words {
+    if w.op < 32 {
+        return on_tags(w.op, lent(a, w.b as usize), w.a as usize, w.c, w.d);
     }
-    if op == 34 {
-        return written_block(ws, lent(a, size(ws, 1)));
+    let s = lent(a, w.a as usize);
+    if w.op == 34 {
+        return written_block(w, s);
     }
-    on_page(ws, op, lent(a, size(ws, 1)), b)
+    on_page(w, s, b)
 }
 
 // ---- 40 to 43: a log is read
@@ -673,74 +903,28 @@ fn listed(log: &[u8]) -> Words {
     r
 }
 
-fn on_log(ws: &[u64], op: u64, log: &[u8]) -> Words {
-    let at = size(ws, 2);
+fn on_log(w: In, log: &[u8]) -> Words {
+    let at = w.b as usize;
+    let op = w.op;
     match op {
         40 => of_number(wal_read::set(log)),
         41 => reader_next(log, at),
-        42 => update_part(log, at, word(ws, 3), word(ws, 4)),
+        42 => update_part(log, at, w.c, w.d),
         _ => listed(log),
     }
-}
-
-// ---- 56 and 57: growth and audit
-
-fn of_grown(r: rehash::Grown) -> Words {
-    match r {
-        rehash::Grown::Done => said(0, 0, 0),
-        rehash::Grown::NothingToDo => said(0, 1, 0),
-        rehash::Grown::Refused(why) => one(number(why)),
-    }
-}
-
-fn grown(ws: &[u64], old: &[u8], new: &mut [u8], c: &[u64]) -> Words {
-    of_grown(rehash::grow(old, size(ws, 1), new, size(ws, 3), hashes(c, size(ws, 5))))
-}
-
-// The bits of a rate, which are those of one f64.
-fn bits_of(rate: f64) -> u64 {
-    if rate < 2.0 {
-        return f64::to_bits(rate);
-    }
-    0
-}
-
-fn of_audit(a: validate::Audit) -> Words {
-    said6(0, a.capacity, a.occupied, bits_of(a.rate), 0, 0)
-}
-
-fn audited(ws: &[u64], image: &[u8], c: &[u64]) -> Words {
-    match validate::validate_hashtable(image, size(ws, 1), hashes(c, size(ws, 3))) {
-        validate::Audited::Passed(a) => of_audit(a),
-        validate::Audited::Refused(why) => one(number(why)),
-    }
-}
-
-// ---- the lines
-
-fn answer(ws: &[u64], op: u64, a: &mut [u8], b: &mut [u8], c: &mut [u64], m: &mut [u8]) -> Words {
-    if op < 16 {
-        return words_alone(ws, op);
-    }
-    if op < 23 {
-        return on_memory(ws, op, a, b, c, m);
-    }
-    if op < 40 {
-        return on_table(ws, op, a, b);
-    }
-    if op < 44 {
-        return on_log(ws, op, part(b, size(ws, 1)));
-    }
-    if op == 56 {
-        return grown(ws, part(a, size(ws, 2)), lent(b, size(ws, 4)), c);
-    }
-    audited(ws, part(a, size(ws, 2)), c)
 }
 
 // How many answers were looked at, and how many differ.
 struct Count {
     answers: u64,
     differ: u64,
+}
+
+fn no_count() -> Count {
+    Count {
+        answers: 0,
+        differ: 0,
+    }
 }
 
 fn more(x: u64) -> u64 {
@@ -758,6 +942,292 @@ fn counted(c: Count, well: bool) -> Count {
         answers: more(c.answers),
         differ: more(c.differ),
     }
+}
+
+// ---- 44 to 48: a log is written
+
+fn writer(kind: u64, at: u64) -> Writer {
+    match kind {
+        0 => Writer::Fresh,
+        1 => Writer::Open(at as usize),
+        _ => Writer::Finished(at as usize),
+    }
+}
+
+// An answer, and where the writer stands after it: 0 fresh, 1 open, 2 finished.
+fn with_writer(r: u64, w: Writer) -> Words {
+    match w {
+        Writer::Fresh => said(r, 0, 0),
+        Writer::Open(at) => said(r, 1, at as u64),
+        Writer::Finished(at) => said(r, 2, at as u64),
+    }
+}
+
+fn of_written(r: wal_write::Written) -> Words {
+    let outcome = r.outcome;
+    let w = r.writer;
+    with_writer(of_outcome(outcome), w)
+}
+
+fn of_finished(r: wal_write::FinishedAnswer) -> Words {
+    let answer = r.answer;
+    let w = r.writer;
+    let said = of_number(answer);
+    with_writer(said.a, w)
+}
+
+// An update from a page, which ends in its id.
+fn page_update(w: In, log: &mut [u8], page: &[u8], state: Writer) -> Words {
+    let id = blocks::block_32(page, 4064);
+    of_written(wal_write::write_page_update(log, state, id, diff(w.e, w.f), page, w.d))
+}
+
+// The same from the page's nodes by value, with an entry past their count.
+fn packed_update(w: In, log: &mut [u8], page: &[u8], state: Writer) -> Words {
+    let d = diff(w.e, w.f);
+    let id = blocks::block_32(page, 4064);
+    let r = page_diff::pack_changed_nodes(d, page);
+    let p = r.packed;
+    let mut nodes = page_diff::nodes_of(p);
+    nodes[125] = id;
+    let elided = blocks::block_8(page, 4056);
+    of_written(wal_write::write_update(log, state, id, d, nodes, w.g as usize, elided, w.d))
+}
+
+fn on_writer(w: In, log: &mut [u8], page: &[u8]) -> Words {
+    let state = writer(w.a, w.b);
+    let op = w.op;
+    match op {
+        44 => of_written(wal_write::begin(log, state, low_four(w.d))),
+        45 => of_written(wal_write::write_clear(log, state, w.d)),
+        46 => page_update(w, log, page, state),
+        47 => packed_update(w, log, page, state),
+        _ => of_finished(wal_write::finish(log, state)),
+    }
+}
+
+// ---- 58 and 59: replay, and its stops
+
+fn of_recovered(r: Recovered) -> Words {
+    match r {
+        Recovered::Nothing => one(0),
+        Recovered::Stale => one(1),
+        Recovered::Applied => one(2),
+        Recovered::Refused(why) => said(3, number(why), 0),
+    }
+}
+
+fn replayed_on(w: In, image: &mut [u8], log: &[u8], hashes: &[u64]) -> Words {
+    of_recovered(recover::recover(image, w.a as usize, log, low_four(w.d), hashes))
+}
+
+// The table of the stops has three buckets, and their log this sync number.
+const N: usize = 3;
+
+const SIZE: usize = 16384;
+
+const SYNC: u32 = 7;
+
+const MOST_ENTRIES: usize = 16;
+
+// The byte of `low` below a position, and that of `high` from there on.
+fn mixed(low: &[u8], high: &[u8], position: usize, i: usize) -> u8 {
+    if i < position {
+        return byte(low, i);
+    }
+    byte(high, i)
+}
+
+// The bytes of `low` below a position, and those of `high` from there on.
+fn mix(to: &mut [u8], low: &[u8], high: &[u8], position: usize) {
+    let mut i = 0;
+    while i < to.len() {
+        to[i] = mixed(low, high, position, i);
+        i += 1;
+    }
+}
+
+fn equal(a: &[u8], b: &[u8]) -> bool {
+    let mut i = 0;
+    while i < a.len() {
+        if a[i] != byte(b, i) {
+            return false;
+        }
+        i += 1;
+    }
+    true
+}
+
+// Replays on the image, and compares it with the one expected.
+fn ends_in(image: &mut [u8], log: &[u8], hashes: &[u64], expected: &[u8]) -> bool {
+    let answer = recover::recover(image, N, log, SYNC, hashes);
+    if let Recovered::Applied = answer {
+        return equal(image, expected);
+    }
+    false
+}
+
+// One stop: the bytes after an entry below a position, and those before it from there on. It is replayed from
+// the start, and once more.
+fn stop_at(
+    before: &[u8],
+    after: &[u8],
+    position: usize,
+    log: &[u8],
+    hashes: &[u64],
+    expected: &[u8],
+) -> bool {
+    let mut image = [0u8; SIZE];
+    mix(&mut image, after, before, position);
+    if ends_in(&mut image, log, hashes, expected) {
+        return ends_in(&mut image, log, hashes, expected);
+    }
+    false
+}
+
+// All stops of one entry: before its first byte, and after each byte that it changes.
+fn stops(
+    t: Count,
+    before: &[u8],
+    after: &[u8],
+    log: &[u8],
+    hashes: &[u64],
+    expected: &[u8],
+) -> Count {
+    let mut t = counted(t, stop_at(before, after, 0, log, hashes, expected));
+    let mut i = 0;
+    while i < SIZE {
+        if byte(before, i) != byte(after, i) {
+            t = counted(t, stop_at(before, after, i + 1, log, hashes, expected));
+        }
+        i += 1;
+    }
+    t
+}
+
+// Where the replay stands: the next entry, how many hashes are used, and whether the log has ended.
+struct Standing {
+    at: usize,
+    used: usize,
+    ended: bool,
+}
+
+fn stands(at: usize, used: usize, ended: bool) -> Standing {
+    Standing { at, used, ended }
+}
+
+// Applies one entry to the image.
+fn entry(image: &mut [u8], log: &[u8], p: Standing, hashes: &[u64]) -> Standing {
+    let hash = word(hashes, p.used);
+    match recover::apply_entry(image, N, log, p.at, hash) {
+        Stepped::Cleared(next) => stands(next, p.used, false),
+        Stepped::Updated(next) => stands(next, std::num::wrapping_add_usize(p.used, 1), false),
+        _ => stands(p.at, p.used, true),
+    }
+}
+
+// The stops of every entry of a log.
+fn walk(table: &[u8], log: &[u8], hashes: &[u64], expected: &[u8]) -> Count {
+    let mut before = [0u8; SIZE];
+    let mut after = [0u8; SIZE];
+    mix(&mut before, table, table, 0);
+    mix(&mut after, table, table, 0);
+    let mut t = no_count();
+    let mut p = stands(wal::START_SIZE, 0, false);
+    let mut k = 0;
+    while k < MOST_ENTRIES {
+        p = entry(&mut after, log, p, hashes);
+        if p.ended {
+            return t;
+        }
+        t = stops(t, &before, &after, log, hashes, expected);
+        mix(&mut before, &after, &after, 0);
+        k += 1;
+    }
+    t
+}
+
+// The replay without a stop, its image as one number, and how many stops there are and do not end in it.
+fn stopped(table: &[u8], log: &[u8], hashes: &[u64]) -> Words {
+    let mut expected = [0u8; SIZE];
+    mix(&mut expected, table, table, 0);
+    let r = of_recovered(recover::recover(&mut expected, N, log, SYNC, hashes));
+    let t = walk(table, log, hashes, &expected);
+    said6(r.a, weighed(&expected), t.answers, t.differ, 0, 0)
+}
+
+// ---- 56 and 57: growth and audit
+
+fn of_grown(r: rehash::Grown) -> Words {
+    match r {
+        rehash::Grown::Done => said(0, 0, 0),
+        rehash::Grown::NothingToDo => said(0, 1, 0),
+        rehash::Grown::Refused(why) => one(number(why)),
+    }
+}
+
+fn grown(w: In, old: &[u8], new: &mut [u8], c: &[u64]) -> Words {
+    of_grown(rehash::grow(
+        old,
+        w.a as usize,
+        new,
+        w.c as usize,
+        hashes(c, w.e as usize),
+    ))
+}
+
+// The bits of a rate, which are those of one f64.
+fn bits_of(rate: f64) -> u64 {
+    if rate < 2.0 {
+        return f64::to_bits(rate);
+    }
+    0
+}
+
+fn of_audit(a: validate::Audit) -> Words {
+    said6(0, a.capacity, a.occupied, bits_of(a.rate), 0, 0)
+}
+
+fn audited(w: In, image: &[u8], c: &[u64]) -> Words {
+    match validate::validate_hashtable(image, w.a as usize, hashes(c, w.c as usize)) {
+        validate::Audited::Passed(a) => of_audit(a),
+        validate::Audited::Refused(why) => one(number(why)),
+    }
+}
+
+// ---- the lines
+
+fn on_table_and_log(w: In, a: &mut [u8], b: &mut [u8], c: &[u64]) -> Words {
+    let t = lent(a, w.b as usize);
+    let op = w.op;
+    match op {
+        56 => grown(w, t, lent(b, w.d as usize), c),
+        57 => audited(w, t, c),
+        58 => replayed_on(w, t, part(b, w.c as usize), hashes(c, w.e as usize)),
+        _ => stopped(t, part(b, w.c as usize), hashes(c, w.e as usize)),
+    }
+}
+
+fn answer(w: In, a: &mut [u8], b: &mut [u8], c: &mut [u64]) -> Words {
+    if w.op < 16 {
+        return words_alone(w);
+    }
+    if w.op < 23 {
+        return on_memory(w, a, b, c);
+    }
+    if w.op == 23 {
+        return sweep(w);
+    }
+    if w.op < 40 {
+        return on_table(w, a, b);
+    }
+    if w.op < 44 {
+        return on_log(w, part(b, w.a as usize));
+    }
+    if w.op < 49 {
+        return on_writer(w, lent(b, w.c as usize), part(a, 4096));
+    }
+    on_table_and_log(w, a, b, c)
 }
 
 fn say_word(x: u64) {
@@ -788,26 +1258,14 @@ fn line_of(text: &[u8], at: usize, next: usize) -> &[u8] {
     from(part(text, next), at)
 }
 
-// One line, whose words are these; a line that fills a memory has no answer.
-fn run(
-    ws: &[u64],
-    line: &[u8],
-    k: Count,
-    a: &mut [u8],
-    b: &mut [u8],
-    c: &mut [u64],
-    m: &mut [u8],
-) -> Count {
-    let op = word(ws, 0);
-    if op == 0 {
-        return k;
-    }
-    let s = answer(ws, op, a, b, c, m);
-    let well = same(ws, s);
+// One line, which counts unless it fills a memory.
+fn run(w: In, r: Words, line: &[u8], k: Count, a: &mut [u8], b: &mut [u8], c: &mut [u64]) -> Count {
+    let s = answer(w, a, b, c);
+    let well = same(r, s);
     if !well {
         told(line, s);
     }
-    if op > 15 && op < 19 {
+    if w.op > 15 && w.op < 19 {
         return k;
     }
     counted(k, well)
@@ -819,29 +1277,25 @@ struct Next {
     count: Count,
 }
 
-fn no_words() -> [u64; 20] {
-    [0; WORDS]
-}
-
 // The line at a place of the text; past its end there is none.
-fn line(text: &[u8], k: Next, a: &mut [u8], b: &mut [u8], c: &mut [u64], m: &mut [u8]) -> Next {
+fn line(text: &[u8], k: Next, a: &mut [u8], b: &mut [u8], c: &mut [u64]) -> Next {
     let mut ws = no_words();
     let from = k.at;
     let at = scan(text, from, &mut ws);
-    let count = run(&ws, line_of(text, from, at), k.count, a, b, c, m);
+    let mut count = k.count;
+    if ws[0] != 0 {
+        count = run(given(ws), due(ws), line_of(text, from, at), count, a, b, c);
+    }
     Next { at, count }
 }
 
 // The lines of a text, which are no more than its bytes.
-fn lines(text: &[u8], a: &mut [u8], b: &mut [u8], c: &mut [u64], m: &mut [u8]) -> Count {
-    let count = Count {
-        answers: 0,
-        differ: 0,
-    };
+fn lines(text: &[u8], a: &mut [u8], b: &mut [u8], c: &mut [u64]) -> Count {
+    let count = no_count();
     let mut next = Next { at: 0, count };
     let mut i = 0;
     while i < text.len() {
-        next = line(text, next, a, b, c, m);
+        next = line(text, next, a, b, c);
         i += 1;
     }
     next.count
@@ -851,8 +1305,7 @@ fn replayed(text: &[u8]) -> Count {
     let mut a = [0u8; 397312];
     let mut b = [0u8; 290816];
     let mut c = [0u64; 96];
-    let mut m = [0u8; 2];
-    lines(text, &mut a, &mut b, &mut c, &mut m)
+    lines(text, &mut a, &mut b, &mut c)
 }
 
 fn main() {

@@ -1,16 +1,10 @@
+-- The count of turns, and a put keeps the length. Assumes nothing.
 use mathlib.Core.Path.{_≡_}
-use Prim.Native.Nat.{ℕ, _+_, _-_, _*_, _≤_, _<_}
+use Prim.Native.Nat.{_-_, _≤_}
 use lib.ListN.{length}
-use native.Mathlib.Omega.{arith}
 use borrow.Author.Needs.{needs}
 use Rattle.vectors.proofs.fill.Statement.{statement}
 use Rattle.vectors.proofs.fill.Tie as tie
-use Rattle.vectors.proofs.fill.Reads as reads
-use Rattle.vectors.proofs.fill.Lts as lts
-use Rattle.std.proofs.num.wrapping_add_u64.Reads as wrapping-add-u64-reads
-use Rattle.std.proofs.num.wrapping_add_usize.Reads as wrapping-add-usize-reads
-use Rattle.vectors.proofs.low_byte.Reads as low-byte-reads
-use Rattle.vectors.proofs.put.Reads as put-reads
 
 abbrev Inv-loop : tie.InvT-loop
 Inv-loop s₀ at count stride value step to₀ x₀ i₀ s to x i = (i ≤ count) × (length s ≡ length s₀)
@@ -18,43 +12,33 @@ Inv-loop s₀ at count stride value step to₀ x₀ i₀ s to x i = (i ≤ count
 abbrev μ-loop : tie.MeasureT-loop
 μ-loop s₀ at count stride value step to₀ x₀ i₀ s to x i = count - i
 
--- src/main.rt:330:5
 loop-holds : tie.Need-loop-holds Inv-loop μ-loop
 loop-holds c = search needs
 
--- src/main.rt:331:20
 low-byte-requires : tie.Need-low-byte-requires Inv-loop μ-loop
 low-byte-requires c κs = search needs
 
--- src/main.rt:331:9
 put-requires : tie.Need-put-requires Inv-loop μ-loop
 put-requires c κs = search needs
 
--- src/main.rt:332:9
 wrapping-add-usize-requires : tie.Need-wrapping-add-usize-requires Inv-loop μ-loop
 wrapping-add-usize-requires c κs = search needs
 
--- src/main.rt:333:9
 wrapping-add-u64-requires : tie.Need-wrapping-add-u64-requires Inv-loop μ-loop
 wrapping-add-u64-requires c κs = search needs
 
--- src/main.rt:334:9
 add-i : tie.Need-add-i Inv-loop μ-loop
 add-i c = search needs
 
--- src/main.rt:330:5
 loop-less : tie.Need-loop-less Inv-loop μ-loop
 loop-less c = search needs
 
--- src/main.rt:330:5
 loop-again : tie.Need-loop-again Inv-loop μ-loop
 loop-again c = search needs
 
--- src/main.rt:326:1
 same-length : tie.Need-same-length Inv-loop μ-loop
 same-length c = search needs
 
--- src/main.rt:326:1
 returns : tie.Need-returns Inv-loop μ-loop
 returns c = search needs
 

@@ -1,16 +1,10 @@
+-- The count of turns, and a put keeps the length. Assumes nothing.
 use mathlib.Core.Path.{_≡_}
-use Prim.Native.Nat.{ℕ, _+_, _-_, _*_, _≤_, _<_}
+use Prim.Native.Nat.{_-_, _≤_}
 use lib.ListN.{length}
-use native.Mathlib.Omega.{arith}
 use borrow.Author.Needs.{needs}
 use Rattle.vectors.proofs.mingle.Statement.{statement}
 use Rattle.vectors.proofs.mingle.Tie as tie
-use Rattle.vectors.proofs.mingle.Reads as reads
-use Rattle.vectors.proofs.mingle.Lts as lts
-use Rattle.std.proofs.num.wrapping_add_u64.Reads as wrapping-add-u64-reads
-use Rattle.std.proofs.num.wrapping_add_usize.Reads as wrapping-add-usize-reads
-use Rattle.vectors.proofs.mixture.Reads as mixture-reads
-use Rattle.vectors.proofs.put.Reads as put-reads
 
 abbrev Inv-loop : tie.InvT-loop
 Inv-loop s₀ at count seed period j₀ x₀ i₀ s j x i = (i ≤ count) × (length s ≡ length s₀)
@@ -18,55 +12,42 @@ Inv-loop s₀ at count seed period j₀ x₀ i₀ s j x i = (i ≤ count) × (le
 abbrev μ-loop : tie.MeasureT-loop
 μ-loop s₀ at count seed period j₀ x₀ i₀ s j x i = count - i
 
--- src/main.rt:371:5
 loop-holds : tie.Need-loop-holds Inv-loop μ-loop
 loop-holds c = search needs
 
--- src/main.rt:372:16
 wrapping-add-usize-requires : tie.Need-wrapping-add-usize-requires Inv-loop μ-loop
 wrapping-add-usize-requires c κs = search needs
 
--- src/main.rt:372:53
 mixture-requires : tie.Need-mixture-requires Inv-loop μ-loop
 mixture-requires c κs = search needs
 
--- src/main.rt:372:9
 put-requires : tie.Need-put-requires Inv-loop μ-loop
 put-requires c κs = search needs
 
--- src/main.rt:373:9
 add-i : tie.Need-add-i Inv-loop μ-loop
 add-i c = search needs
 
--- src/main.rt:374:9
 wrapping-add-usize-requires-2 : tie.Need-wrapping-add-usize-requires-2 Inv-loop μ-loop
 wrapping-add-usize-requires-2 c κs = search needs
 
--- src/main.rt:377:13
 wrapping-add-u64-requires : tie.Need-wrapping-add-u64-requires Inv-loop μ-loop
 wrapping-add-u64-requires c κs = search needs
 
--- src/main.rt:371:5
 loop-less : tie.Need-loop-less Inv-loop μ-loop
 loop-less c = search needs
 
--- src/main.rt:371:5
 loop-again : tie.Need-loop-again Inv-loop μ-loop
 loop-again c = search needs
 
--- src/main.rt:371:5
 loop-less-2 : tie.Need-loop-less-2 Inv-loop μ-loop
 loop-less-2 c = search needs
 
--- src/main.rt:371:5
 loop-again-2 : tie.Need-loop-again-2 Inv-loop μ-loop
 loop-again-2 c = search needs
 
--- src/main.rt:367:1
 same-length : tie.Need-same-length Inv-loop μ-loop
 same-length c = search needs
 
--- src/main.rt:367:1
 returns : tie.Need-returns Inv-loop μ-loop
 returns c = search needs
 

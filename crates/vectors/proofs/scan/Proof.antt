@@ -1,17 +1,10 @@
+-- The bytes left fall with each turn, and the place of a word stays below 20. Assumes nothing.
 use mathlib.Core.Path.{_≡_}
-use Prim.Native.Nat.{ℕ, _+_, _-_, _*_, _≤_, _<_}
+use Prim.Native.Nat.{_-_, _≤_}
 use lib.ListN.{length}
-use native.Mathlib.Omega.{arith}
 use borrow.Author.Needs.{needs}
 use Rattle.vectors.proofs.scan.Statement.{statement}
 use Rattle.vectors.proofs.scan.Tie as tie
-use Rattle.vectors.proofs.scan.Reads as reads
-use Rattle.vectors.proofs.scan.Lts as lts
-use Rattle.vectors.proofs.is_hex.Reads as is-hex-reads
-use Rattle.vectors.proofs.longer.Reads as longer-reads
-use Rattle.vectors.proofs.place.Reads as place-reads
-use Rattle.vectors.proofs.put_word.Reads as put-word-reads
-use Rattle.vectors.proofs.word.Reads as word-reads
 
 abbrev Inv-loop : tie.InvT-loop
 Inv-loop text at ws₀ k₀ hex₀ i₀ ws k hex i = (k ≤ 19) × (length ws ≡ length ws₀)
@@ -19,59 +12,45 @@ Inv-loop text at ws₀ k₀ hex₀ i₀ ws k hex i = (k ≤ 19) × (length ws �
 abbrev μ-loop : tie.MeasureT-loop
 μ-loop text at ws₀ k₀ hex₀ i₀ ws k hex i = length text - i
 
--- src/main.rt:197:5
 loop-holds : tie.Need-loop-holds Inv-loop μ-loop
 loop-holds c = search needs
 
--- src/main.rt:198:17
 shared-slice-read-b : tie.Need-shared-slice-read-b Inv-loop μ-loop
 shared-slice-read-b c = search needs
 
--- src/main.rt:199:9
 add-i : tie.Need-add-i Inv-loop μ-loop
 add-i c = search needs
 
--- src/main.rt:201:13
 same-length : tie.Need-same-length Inv-loop μ-loop
 same-length c = search needs
 
--- src/main.rt:201:13
 returns : tie.Need-returns Inv-loop μ-loop
 returns c = search needs
 
--- src/main.rt:203:9
 place-requires : tie.Need-place-requires Inv-loop μ-loop
 place-requires c κs = search needs
 
--- src/main.rt:204:9
 is-hex-requires : tie.Need-is-hex-requires Inv-loop μ-loop
 is-hex-requires c κs = search needs
 
--- src/main.rt:205:24
 word-requires : tie.Need-word-requires Inv-loop μ-loop
 word-requires c κs = search needs
 
--- src/main.rt:205:13
 longer-requires : tie.Need-longer-requires Inv-loop μ-loop
 longer-requires c κs = search needs
 
--- src/main.rt:206:9
 put-word-requires : tie.Need-put-word-requires Inv-loop μ-loop
 put-word-requires c κs = search needs
 
--- src/main.rt:197:5
 loop-less : tie.Need-loop-less Inv-loop μ-loop
 loop-less c = search needs
 
--- src/main.rt:197:5
 loop-again : tie.Need-loop-again Inv-loop μ-loop
 loop-again c = search needs
 
--- src/main.rt:193:1
 same-length-2 : tie.Need-same-length-2 Inv-loop μ-loop
 same-length-2 c = search needs
 
--- src/main.rt:193:1
 returns-2 : tie.Need-returns-2 Inv-loop μ-loop
 returns-2 c = search needs
 

@@ -3,8 +3,8 @@ use mathlib.Core.Path.{_≡_}
 use Prim.Native.Nat.{_-_, _≤_}
 use lib.ListN.{length}
 use borrow.Author.Needs.{needs}
-use Rattle.stop_runs.proofs.walk.Statement.{statement}
-use Rattle.stop_runs.proofs.walk.Tie as tie
+use Rattle.vectors.proofs.walk.Statement.{statement}
+use Rattle.vectors.proofs.walk.Tie as tie
 
 abbrev Inv-loop : tie.InvT-loop
 Inv-loop table log hashes expected before₀ after₀ t₀ p₀ k₀ before after t p k = (k ≤ 16) × (length before ≡ 16384) × (length after ≡ 16384)
@@ -24,8 +24,11 @@ slice-aggregate-mix-2 c = search needs
 mix-requires-2 : tie.Need-mix-requires-2 Inv-loop μ-loop
 mix-requires-2 c κs = search needs
 
-no-stop-requires : tie.Need-no-stop-requires Inv-loop μ-loop
-no-stop-requires c κs = search needs
+no-count-requires : tie.Need-no-count-requires Inv-loop μ-loop
+no-count-requires c κs = search needs
+
+stands-requires : tie.Need-stands-requires Inv-loop μ-loop
+stands-requires c κs = search needs
 
 loop-holds : tie.Need-loop-holds Inv-loop μ-loop
 loop-holds c = search needs
@@ -82,7 +85,8 @@ walk-spec =
     mix-requires
     slice-aggregate-mix-2
     mix-requires-2
-    no-stop-requires
+    no-count-requires
+    stands-requires
     loop-holds
     slice-aggregate-entry
     entry-requires

@@ -3,8 +3,8 @@ use mathlib.Core.Path.{_≡_}
 use Prim.Native.Nat.{_-_, _≤_}
 use lib.ListN.{length}
 use borrow.Author.Needs.{needs}
-use Rattle.stop_runs.proofs.mix.Statement.{statement}
-use Rattle.stop_runs.proofs.mix.Tie as tie
+use Rattle.vectors.proofs.mix.Statement.{statement}
+use Rattle.vectors.proofs.mix.Tie as tie
 
 abbrev Inv-loop : tie.InvT-loop
 Inv-loop to₀ low high position i₀ to i = (i ≤ length to₀) × (length to ≡ length to₀)

@@ -1,8 +1,8 @@
 -- The count of turns. Assumes nothing.
 use Prim.Native.Nat.{_-_, _≤_}
 use borrow.Author.Needs.{needs}
-use Rattle.stop_runs.proofs.stops.Statement.{statement}
-use Rattle.stop_runs.proofs.stops.Tie as tie
+use Rattle.vectors.proofs.stops.Statement.{statement}
+use Rattle.vectors.proofs.stops.Tie as tie
 
 abbrev Inv-loop : tie.InvT-loop
 Inv-loop before after log hashes expected t₀ i₀ t i = i ≤ 16384
@@ -19,11 +19,11 @@ counted-requires c κs = search needs
 loop-holds : tie.Need-loop-holds Inv-loop μ-loop
 loop-holds c = search needs
 
-at-requires : tie.Need-at-requires Inv-loop μ-loop
-at-requires c κs = search needs
+byte-requires : tie.Need-byte-requires Inv-loop μ-loop
+byte-requires c κs = search needs
 
-at-requires-2 : tie.Need-at-requires-2 Inv-loop μ-loop
-at-requires-2 c κs = search needs
+byte-requires-2 : tie.Need-byte-requires-2 Inv-loop μ-loop
+byte-requires-2 c κs = search needs
 
 add-stop-at : tie.Need-add-stop-at Inv-loop μ-loop
 add-stop-at c = search needs
@@ -55,8 +55,8 @@ stops-spec =
     stop-at-requires
     counted-requires
     loop-holds
-    at-requires
-    at-requires-2
+    byte-requires
+    byte-requires-2
     add-stop-at
     stop-at-requires-2
     counted-requires-2
