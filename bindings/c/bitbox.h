@@ -185,7 +185,7 @@ typedef struct {
 } bitbox_entry;
 
 /* An entry seen without its fields: BITBOX_ENTRY_..., its bucket, its nodes, where the next stands (at the end and
- * where it is refused, 0). */
+ * where it is refused, the position that was asked for). */
 typedef struct {
     uint64_t refusal;
     uint64_t kind;
@@ -233,7 +233,7 @@ typedef struct {
 } bitbox_sync_answer;
 
 /* What a step of replay comes to: BITBOX_STEP_..., where the next entry stands (at the end and where it is refused,
- * 0). */
+ * the position that was asked for). */
 typedef struct {
     uint64_t refusal;
     uint64_t kind;

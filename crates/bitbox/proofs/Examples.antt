@@ -37,11 +37,11 @@ paths = (refl, refl)
 -- an entry's numbers, its head, and a step of replay
 pub entries : (map entryRefusal (ends ∷ clears 5 ∷ updates 6 ∷ refuses 8 ∷ []) ∷ map entryKind (ends ∷ clears 5 ∷ updates 6 ∷ refuses 8 ∷ []) ∷ map entryBucket (ends ∷ clears 5 ∷ updates 6 ∷ refuses 8 ∷ []) ∷ []
     ≡ (0 ∷ 0 ∷ 0 ∷ 8 ∷ []) ∷ (0 ∷ 1 ∷ 2 ∷ 0 ∷ []) ∷ (0 ∷ 5 ∷ 6 ∷ 0 ∷ []) ∷ [])
-    × (map headWords (theEnd ∷ aClear 5 14 ∷ anUpdate 6 2 143 ∷ aRefusal 8 ∷ [])
-    ≡ record { refusal = 0; kind = 0; bucket = 0; count = 0; next = 0 } ∷ record { refusal = 0; kind = 1; bucket = 5; count = 0; next = 14 }
-    ∷ record { refusal = 0; kind = 2; bucket = 6; count = 2; next = 143 } ∷ record { refusal = 8; kind = 0; bucket = 0; count = 0; next = 0 } ∷ [])
-    × (map wentWords (given atEnd ∷ given (cleared 14) ∷ given (updated 143) ∷ refused 9 ∷ [])
-    ≡ record { refusal = 0; kind = 0; next = 0 } ∷ record { refusal = 0; kind = 1; next = 14 } ∷ record { refusal = 0; kind = 2; next = 143 } ∷ record { refusal = 9; kind = 0; next = 0 } ∷ [])
+    × (map (λ e. headWords e 9) (theEnd ∷ aClear 5 14 ∷ anUpdate 6 2 143 ∷ aRefusal 8 ∷ [])
+    ≡ record { refusal = 0; kind = 0; bucket = 0; count = 0; next = 9 } ∷ record { refusal = 0; kind = 1; bucket = 5; count = 0; next = 14 }
+    ∷ record { refusal = 0; kind = 2; bucket = 6; count = 2; next = 143 } ∷ record { refusal = 8; kind = 0; bucket = 0; count = 0; next = 9 } ∷ [])
+    × (map (λ a. wentWords a 9) (given atEnd ∷ given (cleared 14) ∷ given (updated 143) ∷ refused 9 ∷ [])
+    ≡ record { refusal = 0; kind = 0; next = 9 } ∷ record { refusal = 0; kind = 1; next = 14 } ∷ record { refusal = 0; kind = 2; next = 143 } ∷ record { refusal = 9; kind = 0; next = 9 } ∷ [])
 entries = (refl, refl, refl)
 
 -- a writer's state, both ways, and what its calls answer

@@ -115,15 +115,16 @@ pub record Read (n : Next) (at : ℕ) (e : Entry) : Type 0 where
   pub packed-is : e .packed ≡ packedOf n
   pub elided-is : e .elided ≡ elidedOf n
 
--- an entry seen without its fields, by the same kinds: bucket, count of nodes, where the next one stands
+-- an entry seen without its fields, by the same kinds: bucket, count of nodes, where the next one stands; "position unchanged" at the end and on
+-- a refusal
 abbrev pub head : ℕ → ℕ → ℕ → ℕ → ℕ → Head
 head k w b c p = record { refusal = k; kind = w; bucket = b; count = c; next = p }
 
-abbrev pub headWords : Seen → Head
-headWords (aClear b p) = head 0 1 b 0 p
-headWords (anUpdate b c p) = head 0 2 b c p
-headWords theEnd = head 0 0 0 0 0
-headWords (aRefusal k) = head k 0 0 0 0
+abbrev pub headWords : Seen → ℕ → Head
+headWords (aClear b p) at = head 0 1 b 0 p
+headWords (anUpdate b c p) at = head 0 2 b c p
+headWords theEnd at = head 0 0 0 0 at
+headWords (aRefusal k) at = head k 0 0 0 at
 
 -- a writer: 0 fresh, 1 open at a position, any other finished with a length
 abbrev pub writerOf : WriterState → Writer
@@ -191,15 +192,15 @@ replayWords (given stale) = words 0 1
 replayWords (given applied) = words 0 2
 replayWords (refused k) = words k 0
 
--- one entry of it: 0 end, 1 cleared, 2 updated, with where the next one stands
+-- one entry of it: 0 end, 1 cleared, 2 updated, with where the next one stands; the position itself at the end and on a refusal
 abbrev pub went : ℕ → ℕ → ℕ → Stepped
 went k w p = record { refusal = k; kind = w; next = p }
 
-abbrev pub wentWords : Answer Went → Stepped
-wentWords (given atEnd) = went 0 0 0
-wentWords (given (cleared p)) = went 0 1 p
-wentWords (given (updated p)) = went 0 2 p
-wentWords (refused k) = went k 0 0
+abbrev pub wentWords : Answer Went → ℕ → Stepped
+wentWords (given atEnd) at = went 0 0 at
+wentWords (given (cleared p)) at = went 0 1 p
+wentWords (given (updated p)) at = went 0 2 p
+wentWords (refused k) at = went k 0 at
 
 -- a marker's counts
 abbrev pub marker : ℕ → ℕ → ℕ → Marker

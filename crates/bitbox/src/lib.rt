@@ -438,14 +438,14 @@ fn of_recovered(d: recover::Recovered) -> Answer
     }
 }
 
-fn of_stepped(s: recover::Stepped) -> Stepped
-    ensures { λ r. ⌜ r ≡ wentWords (steppedSaid s) ⌝ }
+fn of_stepped(s: recover::Stepped, at: usize) -> Stepped
+    ensures { λ r. ⌜ r ≡ wentWords (steppedSaid s) at ⌝ }
 {
     match s {
         recover::Stepped::End => Stepped {
             refusal: 0,
             kind: 0,
-            next: 0,
+            next: at as u64,
         },
         recover::Stepped::Cleared(next) => Stepped {
             refusal: 0,
@@ -460,7 +460,7 @@ fn of_stepped(s: recover::Stepped) -> Stepped
         recover::Stepped::Refused(why) => Stepped {
             refusal: refusal_number(why),
             kind: 0,
-            next: 0,
+            next: at as u64,
         },
     }
 }
@@ -811,8 +811,8 @@ pub extern "C" fn bitbox_reader_next(log: &[u8], at: usize) -> Entry
     }
 }
 
-fn of_head(h: wal_read::Head) -> Head
-    ensures { λ r. ⌜ r ≡ headWords (headSaid h) ⌝ }
+fn of_head(h: wal_read::Head, at: usize) -> Head
+    ensures { λ r. ⌜ r ≡ headWords (headSaid h) at ⌝ }
 {
     match h {
         wal_read::Head::Clear { bucket, next } => Head {
@@ -838,14 +838,14 @@ fn of_head(h: wal_read::Head) -> Head
             kind: 0,
             bucket: 0,
             count: 0,
-            next: 0,
+            next: at as u64,
         },
         wal_read::Head::Refused(why) => Head {
             refusal: refusal_number(why),
             kind: 0,
             bucket: 0,
             count: 0,
-            next: 0,
+            next: at as u64,
         },
     }
 }
@@ -853,9 +853,9 @@ fn of_head(h: wal_read::Head) -> Head
 // The same without its fields: no table is moved.
 #[no_mangle]
 pub extern "C" fn bitbox_reader_head(log: &[u8], at: usize) -> Head
-    ensures { λ r. ⌜ r ≡ headWords (headOf (nextAt (now (log .entry)) at)) ⌝ }
+    ensures { λ r. ⌜ r ≡ headWords (headOf (nextAt (now (log .entry)) at)) at ⌝ }
 {
-    of_head(wal_read::head_at(log, at))
+    of_head(wal_read::head_at(log, at), at)
 }
 
 fn entry_refusal(w: wal_read::What) -> u64
@@ -1035,9 +1035,9 @@ pub extern "C" fn bitbox_replay_step(
     at: usize,
     hash: u64,
 ) -> Stepped
-    ensures { λ r. ⌜ (r ≡ wentWords (stepAnswer n (now (image .entry)) (now (log .entry)) at)) × (now (image .exit) ≡ stepImage n (now (image .entry)) (now (log .entry)) at hash) ⌝ }
+    ensures { λ r. ⌜ (r ≡ wentWords (stepAnswer n (now (image .entry)) (now (log .entry)) at) at) × (now (image .exit) ≡ stepImage n (now (image .entry)) (now (log .entry)) at hash) ⌝ }
 {
-    of_stepped(recover::apply_entry(image, n, log, at, hash))
+    of_stepped(recover::apply_entry(image, n, log, at, hash), at)
 }
 
 // ---- growth and audit

@@ -1,5 +1,5 @@
 -- The call, in words. Assumes nothing.
-use mathlib.Core.Path.{_≡_, sym, ap, _∙_}
+use mathlib.Core.Path.{_≡_, refl, ap₂, _∙_}
 use Rattle.bitbox.specs.Words.{headWords}
 use borrow.Author.Needs.{needs}
 use Rattle.bitbox.proofs.bitbox_reader_head.Statement.{statement}
@@ -12,7 +12,7 @@ of-head-requires : tie.Need-of-head-requires
 of-head-requires c κs = search needs
 
 returns : tie.Need-returns
-returns c = c .of-head .ensures ∙ ap headWords (c .before .head-at .ensures)
+returns c = c .of-head .ensures ∙ ap₂ headWords (c .before .head-at .ensures) refl
 
 pub bitbox-reader-head-spec : {M : Type 1} → statement M
 bitbox-reader-head-spec = tie.close (tie.spec head-at-requires of-head-requires returns)

@@ -1,5 +1,5 @@
 -- The call, in words. Assumes nothing.
-use mathlib.Core.Path.{_≡_, sym, ap, _∙_}
+use mathlib.Core.Path.{_≡_, refl, ap₂, _∙_}
 use Rattle.bitbox.specs.Words.{wentWords}
 use borrow.Author.Needs.{needs}
 use Rattle.bitbox.proofs.bitbox_replay_step.Statement.{statement}
@@ -17,7 +17,7 @@ same-length c = search needs
 returns : tie.Need-returns
 returns c = (
   c .of-stepped .ensures
-      ∙ ap wentWords (c .before .before .before .apply-entry .ensures .0),
+      ∙ ap₂ wentWords (c .before .before .before .apply-entry .ensures .0) refl,
   c .before .before .before .apply-entry .ensures .1,
 )
 

@@ -1,7 +1,6 @@
 -- By cases of the answer. Assumes nothing.
-use mathlib.Core.Path.{_≡_, sym, ap, _∙_}
+use mathlib.Core.Path.{_≡_, refl, sym, ap, ap₂, _∙_}
 use Prim.Native.Nat.{ℕ}
-use Rattle.wal_read.specs.declared.Head.{Head}
 use Rattle.wal_read.specs.Head.{headSaid}
 use Rattle.bitbox.specs.Words.{headWords, head}
 use borrow.Author.Needs.{needs}
@@ -24,18 +23,18 @@ refusal-number-requires : tie.Need-refusal-number-requires
 refusal-number-requires c κs = search needs
 
 returns : tie.Need-returns
-returns c = sym (ap (λ (x : Head). headWords (headSaid x)) (c .before .h .given .1))
+returns c = sym (ap₂ headWords (ap headSaid (c .before .h .given .1)) refl)
 
 returns-2 : tie.Need-returns-2
-returns-2 c = sym (ap (λ (x : Head). headWords (headSaid x)) (c .before .h2 .given .1))
+returns-2 c = sym (ap₂ headWords (ap headSaid (c .before .h2 .given .1)) refl)
 
 returns-3 : tie.Need-returns-3
-returns-3 c = sym (ap (λ (x : Head). headWords (headSaid x)) (c .enum-told .given .1))
+returns-3 c = sym (ap₂ headWords (ap headSaid (c .enum-told .given .1)) refl)
 
 returns-4 : tie.Need-returns-4
 returns-4 c =
-    ap (λ (k : ℕ). head k 0 0 0 0) (c .refusal-number .ensures)
-    ∙ sym (ap (λ (x : Head). headWords (headSaid x)) (c .before .before .h3 .given .1))
+    ap₂ (λ (k p : ℕ). head k 0 0 0 p) (c .refusal-number .ensures) refl
+    ∙ sym (ap₂ headWords (ap headSaid (c .before .before .h3 .given .1)) refl)
 
 pub of-head-spec : {M : Type 1} → statement M
 of-head-spec =
