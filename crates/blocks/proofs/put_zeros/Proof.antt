@@ -45,7 +45,7 @@ loop-again : tie.Need-loop-again Inv-loop μ-loop
 loop-again c =
     let at-loop = c .before in
     let args = at-loop .before .before .before .args in
-    zeros-turn (args .s .now) (args .at) (args .n) (at-loop .loop .s) (at-loop .loop .i) (at-loop .loop .inv) (c .loop-test .taken) (omega arith)
+    zeros-turn (args .s .now) (args .at) (args .n) (at-loop .loop .s) (at-loop .loop .i) (at-loop .loop .inv) (omega (arith, c .loop-test .taken)) (omega arith)
 
 same-length : tie.Need-same-length Inv-loop μ-loop
 same-length c = c .before .loop .inv .1
