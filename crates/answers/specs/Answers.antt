@@ -28,6 +28,11 @@ truthSaid truth.Holds = given true
 truthSaid truth.Fails = given false
 truthSaid (truth.Refused r) = refused (numberOf r)
 
+-- one thing after another: a refusal ends it, else it goes on from what was given
+abbrev pub andThen : {A B : Type 0} → Answer A → (A → Answer B) → Answer B
+andThen (given a) f = f a
+andThen (refused m) f = refused m
+
 -- the call did what was asked
 abbrev pub accepted : {A : Type 0} → Answer A → Bool
 accepted (given a) = true

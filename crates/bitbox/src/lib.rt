@@ -8,8 +8,8 @@ ghost use Prim.Native.Nat.{_/_};
 ghost use lib.Dec.{eqb};
 ghost use Rattle.answers.specs.Refusals.{numberOf};
 ghost use Rattle.answers.specs.Answers.{given, outcomeSaid, numberSaid, truthSaid};
-ghost use Rattle.ht_file.specs.Places.{tagPages, imageLength, ifCount, pageOf};
-ghost use Rattle.meta_map.specs.Tags.{empty, tombstone, full, kindOf, isKind, fullTag, countOf as fullCount, paddingEmpty, ifTags, writeAnswer, tagWritten};
+ghost use Rattle.ht_file.specs.Places.{tagPages, imageLength, ifCount, ifTags, pageOf};
+ghost use Rattle.meta_map.specs.Tags.{empty, tombstone, full, kindOf, isKind, fullTag, countOf as fullCount, paddingEmpty, writeAnswer, tagWritten};
 ghost use Rattle.page_diff.specs.Diff.{marked, countOf, setAnswer, setWords, askAnswer, clearedWords, joined, bytesOfWords, readAnswer, readWords};
 ghost use Rattle.page_diff.specs.Pack.{packAnswer, packedOf, unpackAnswer, unpackedPage, packIntoAnswer, packedInto};
 ghost use Rattle.probe.specs.Path.{probeAnswer, lookupAnswer, hitLimit, allocateAnswer, allocatedTags, probedSaid, foundSaid, allocatedSaid};
@@ -731,7 +731,7 @@ pub extern "C" fn bitbox_tag_page(bucket: u64) -> u64
 // How many tag pages a table has: 1.
 #[no_mangle]
 pub extern "C" fn bitbox_tag_pages(n: usize) -> Answer
-    ensures { λ r. ⌜ r ≡ numberWords (ifCount n (tagPages n)) ⌝ }
+    ensures { λ r. ⌜ r ≡ numberWords (ifCount n (given (tagPages n))) ⌝ }
 {
     of_number(ht_file::num_meta_byte_pages(n))
 }
@@ -739,7 +739,7 @@ pub extern "C" fn bitbox_tag_pages(n: usize) -> Answer
 // How long a table's image is: 1.
 #[no_mangle]
 pub extern "C" fn bitbox_table_length(n: usize) -> Answer
-    ensures { λ r. ⌜ r ≡ numberWords (ifCount n (imageLength n)) ⌝ }
+    ensures { λ r. ⌜ r ≡ numberWords (ifCount n (given (imageLength n))) ⌝ }
 {
     of_number(ht_file::expected_file_len(n))
 }
@@ -775,7 +775,7 @@ pub extern "C" fn bitbox_lookup(image: &[u8], n: usize, hash: u64, id: &[u8; 32]
 pub extern "C" fn bitbox_allocate(tags: &mut [u8], n: usize, hash: u64) -> Answer
     ensures { λ r. ⌜ (r ≡ numberWords (allocateAnswer hitLimit (now (tags .entry)) n hash)) × (now (tags .exit) ≡ allocatedTags hitLimit (now (tags .entry)) n hash) ⌝ }
 {
-    of_allocated(probe::allocate_bucket(tags, n, hash))
+    of_allocated(probe::allocate_bucket(tags, n, hash, probe::hit_limit()))
 }
 
 // ---- the log

@@ -5,7 +5,7 @@ use Prim.Native.Nat.{ℕ, zero, suc, _+_, _/_, _^_}
 use lib.Dec.{leb, ltb, eqb}
 use lib.ListN.{length, getD, set, drop}
 use Rattle.answers.specs.Answers.{Answer, given, refused}
-use Rattle.ht_file.specs.Places.{tagsFit}
+use Rattle.ht_file.specs.Places.{tagsFit, ifTags}
 
 -- the four kinds of a tag byte
 pub data Kind : Type 0 where
@@ -34,6 +34,9 @@ isKind other tombstone = false
 isKind other full = false
 isKind other other = true
 
+abbrev pub isFull : ℕ → Bool
+isFull t = isKind full (kindOf t)
+
 -- "full tag = 128 + floor(hash / 2^57)"
 abbrev pub fullTag : ℕ → ℕ
 fullTag h = 128 + h / 2 ^ 57
@@ -55,10 +58,6 @@ allZero (t ∷ ts) = eqb t 0 && allZero ts
 -- "Tag bytes from n on are padding"
 abbrev pub paddingEmpty : List ℕ → ℕ → Bool
 paddingEmpty ts n = allZero (drop n ts)
-
--- what a call on lent tags answers: 1 for the table, else x
-abbrev pub ifTags : {A : Type 0} → List ℕ → ℕ → Answer A → Answer A
-ifTags ts n x = cond (tagsFit n (length ts)) x (refused 1)
 
 -- writing the tag of bucket b: 1, 9, else done
 abbrev pub writeAnswer : List ℕ → ℕ → ℕ → Answer (Unit {0})

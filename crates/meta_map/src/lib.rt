@@ -6,7 +6,8 @@ ghost use Prim.Native.Nat.{_+_, _/_, _≤_};
 ghost use lib.ListN.{length};
 ghost use lib.Dec.{eqb};
 ghost use Rattle.answers.specs.Answers.{outcomeSaid, numberSaid, truthSaid, given};
-ghost use Rattle.meta_map.specs.Tags.{empty, tombstone, full, kindOf, isKind, fullTag, countOf, paddingEmpty, ifTags, writeAnswer, tagWritten};
+ghost use Rattle.ht_file.specs.Places.{ifTags};
+ghost use Rattle.meta_map.specs.Tags.{empty, tombstone, full, kindOf, isKind, isFull, fullTag, countOf, paddingEmpty, writeAnswer, tagWritten};
 use answers::Number;
 use answers::Outcome;
 use answers::Refusal;
@@ -51,7 +52,7 @@ pub fn hint_not_match(tag: u8, hash: u64) -> bool
 
 // Whether the tag says that some page is there.
 pub fn is_full(tag: u8) -> bool
-    ensures { λ r. ⌜ r ≡ isKind full (kindOf tag) ⌝ }
+    ensures { λ r. ⌜ r ≡ isFull tag ⌝ }
 {
     FULL_MASK <= tag
 }
@@ -74,15 +75,16 @@ pub fn set_tombstone(tags: &mut [u8], n: usize, bucket: u64) -> Outcome
 fn set_tag(tags: &mut [u8], n: usize, bucket: u64, tag: u8) -> Outcome
     ensures { λ r. ⌜ (outcomeSaid r ≡ writeAnswer (now (tags .entry)) n bucket) × (now (tags .exit) ≡ tagWritten (now (tags .entry)) n bucket tag) ⌝ }
 {
-    if ht_file::tags_fit(n, tags.len()) {
-        if bucket < n as u64 {
-            let b = bucket as usize;
-            tags[b] = tag;
-            return Outcome::Done;
-        }
-        return Outcome::Refused(Refusal::BucketOutside);
+    let fit = ht_file::check_tags(n, tags.len());
+    if let Outcome::Refused(why) = fit {
+        return Outcome::Refused(why);
     }
-    Outcome::Refused(Refusal::TableUnfit)
+    if bucket < n as u64 {
+        let b = bucket as usize;
+        tags[b] = tag;
+        return Outcome::Done;
+    }
+    Outcome::Refused(Refusal::BucketOutside)
 }
 
 // How many of the tags from `from` to `to` are full: at most 255, in a byte, so that many are counted at
@@ -106,42 +108,44 @@ fn full_between(tags: &[u8], from: usize, to: usize) -> u8
 pub fn full_count(tags: &[u8], n: usize) -> Number
     ensures { λ r. ⌜ numberSaid r ≡ ifTags (now (tags .entry)) n (given (countOf full (now (tags .entry)) n)) ⌝ }
 {
-    if ht_file::tags_fit(n, tags.len()) {
-        let mut count: u32 = 0;
-        let mut i = 0;
-        while i < n {
-            let mut end = n;
-            if COUNTED < n - i {
-                end = i + COUNTED;
-            }
-            count += full_between(tags, i, end) as u32;
-            i = end;
-        }
-        return Number::Is(count as u64);
+    let fit = ht_file::check_tags(n, tags.len());
+    if let Outcome::Refused(why) = fit {
+        return Number::Refused(why);
     }
-    Number::Refused(Refusal::TableUnfit)
+    let mut count: u32 = 0;
+    let mut i = 0;
+    while i < n {
+        let mut end = n;
+        if COUNTED < n - i {
+            end = i + COUNTED;
+        }
+        count += full_between(tags, i, end) as u32;
+        i = end;
+    }
+    Number::Is(count as u64)
 }
 
 // Whether all bytes after the n tags are zero.
 pub fn padding_is_empty(tags: &[u8], n: usize) -> Truth
     ensures { λ r. ⌜ truthSaid r ≡ ifTags (now (tags .entry)) n (given (paddingEmpty (now (tags .entry)) n)) ⌝ }
 {
-    if ht_file::tags_fit(n, tags.len()) {
-        let mut i = n;
-        while i < tags.len() {
-            if tags[i] != EMPTY {
-                return Truth::Fails;
-            }
-            i += 1;
-        }
-        return Truth::Holds;
+    let fit = ht_file::check_tags(n, tags.len());
+    if let Outcome::Refused(why) = fit {
+        return Truth::Refused(why);
     }
-    Truth::Refused(Refusal::TableUnfit)
+    let mut i = n;
+    while i < tags.len() {
+        if tags[i] != EMPTY {
+            return Truth::Fails;
+        }
+        i += 1;
+    }
+    Truth::Holds
 }
 
 // The tag page that a bucket's tag stands in.
 pub fn page_index(bucket: u64) -> u64
     ensures { λ r. ⌜ r ≡ bucket / 4096 ⌝ }
 {
-    bucket / 4096
+    bucket / ht_file::PAGE_SIZE as u64
 }

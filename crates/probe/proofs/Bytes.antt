@@ -6,7 +6,7 @@ use Prim.Native.Nat.{ℕ, zero, suc, _+_, _<_}
 use native.Mathlib.Numerals.{add-one}
 use native.Mathlib.Omega.{arith}
 use lib.Dec.{eqb}
-use lib.ListN.{length, getD, take, drop, length-drop}
+use lib.ListN.{length, getD, take, drop, length-take, length-drop}
 use lib.Seq.{getD-drop}
 use borrow.Author.Tests.{eqb-true, eq-eqb}
 use Rattle.ht_file.proofs.Laws.{both-hold}
@@ -61,3 +61,11 @@ pub same-at : (img id : List ℕ) (at i : ℕ) (t : Bool) → at + i < length im
 same-at img id at i t l m e =
     same-next (drop at img) id i (omega (arith, length-drop at img)) m
     ∙ ap (λ (b : Bool). sameBytes (take i (drop at img)) (take i id) && b) (ap (λ (x : ℕ). eqb x (getD id i 0)) (getD-drop at img i 0) ∙ e)
+
+-- fewer bytes than the id has
+pub same-short : (img id : List ℕ) (at w : ℕ) → 0 < w → length id ≡ w → length img < at + w → sameBytes (take w (drop at img)) id ≡ false
+same-short img id at w some l m = go (sameBytes (take w (drop at img)) id) refl
+  where
+    go : (t : Bool) → sameBytes (take w (drop at img)) id ≡ t → sameBytes (take w (drop at img)) id ≡ false
+    go true e = absurd (omega (arith, ap length (same-equal (take w (drop at img)) id e), length-take w (drop at img), length-drop at img))
+    go false e = e

@@ -1,13 +1,16 @@
 -- 01, 'Path': what probing on, lookup and allocation answer, each answer and each refusal, in literals; and a table on
 -- which a page is stored and found. Assumes nothing.
 use mathlib.Core.Path.{_≡_, refl}
+use mathlib.Core.Bool.{true, false}
 use mathlib.Core.List.{List, [], _∷_, _++_, map}
 use Prim.Native.Nat.{ℕ, zero, suc, _^_, _<_}
 use native.Mathlib.Omega.{arith}
 use lib.ListN.{getD, replicate}
 use Rattle.answers.specs.Answers.{Answer, given, refused}
 use Rattle.answers.specs.declared.Refusal.the-variants.{TableUnfit, PathCrowded, PathClosed}
-use Rattle.probe.specs.Path.{hitLimit, allocating, probing, lookingUp, emptyAt, tombstoneAt, hitAt, closed, pageEnd, probeAnswer, allocateAnswer, allocatedTags, lookupAnswer, foundAt, absent, unreached, probedSaid, foundSaid, allocatedSaid}
+use Rattle.probe.specs.declared.Limit.the-variants as limits
+use Rattle.probe.specs.declared.Limit.{Limit}
+use Rattle.probe.specs.Path.{hitLimit, allows, allocating, probing, lookingUp, emptyAt, tombstoneAt, hitAt, closed, pageEnd, probeAnswer, allocateAnswer, allocatedTags, lookupAnswer, foundAt, absent, unreached, probedSaid, foundSaid, allocatedSaid}
 use Rattle.probe.specs.declared.Probed.the-variants as probed
 use Rattle.probe.specs.declared.Found.the-variants as found
 use Rattle.probe.specs.declared.Allocated.the-variants as allocated
@@ -40,14 +43,20 @@ probes = refl
 
 -- hash 2^57, whose tag is 81, in three buckets: its path is 2 0 2 2 0 2, and bucket 1 is never met; hits up to the limit,
 -- and one more
-abbrev allocate3 : ℕ → ℕ → ℕ → ℕ → Answer ℕ
+abbrev allocate3 : Limit → ℕ → ℕ → ℕ → Answer ℕ
 allocate3 limit a b c = allocateAnswer limit (tags3 a b c) 3 (2 ^ 57)
 
 pub allocations : (allocate3 hitLimit 0x81 0x81 0x00 ∷ allocate3 hitLimit 0x7F 0x81 0x81 ∷ allocate3 hitLimit 0x80 0x00 0x81 ∷ allocate3 hitLimit 0x80 0x00 0x01 ∷ [])
-    ∷ (allocate3 1 0x00 0x00 0x81 ∷ allocate3 0 0x00 0x00 0x81 ∷ allocateAnswer hitLimit (tags3 0x00 0x00 0x00) 0 0 ∷ given hitLimit ∷ []) ∷ []
-    ≡ (given 2 ∷ given 0 ∷ refused 10 ∷ refused 11 ∷ []) ∷ (given 0 ∷ refused 10 ∷ refused 1 ∷ given 9998 ∷ []) ∷ []
+    ∷ (allocate3 (limits.Hits 1) 0x00 0x00 0x81 ∷ allocate3 (limits.Hits 0) 0x00 0x00 0x81 ∷ allocateAnswer hitLimit (tags3 0x00 0x00 0x00) 0 0 ∷ [])
+    ∷ (allocate3 limits.Unlimited 0x00 0x00 0x81 ∷ allocate3 limits.Unlimited 0x80 0x00 0x81 ∷ allocate3 limits.Unlimited 0x80 0x00 0x01 ∷ []) ∷ []
+    ≡ (given 2 ∷ given 0 ∷ refused 10 ∷ refused 11 ∷ []) ∷ (given 0 ∷ refused 10 ∷ refused 1 ∷ [])
+    ∷ (given 0 ∷ refused 11 ∷ refused 11 ∷ []) ∷ []
 unfolding allocating
 allocations = refl
+
+-- 01's limit: 9,998 hits are let through, and one more is not
+pub limit-of-01 : map (allows hitLimit) (0 ∷ 9998 ∷ 9999 ∷ []) ∷ map (allows limits.Unlimited) (0 ∷ 9999 ∷ []) ∷ [] ≡ (true ∷ true ∷ false ∷ []) ∷ (true ∷ true ∷ []) ∷ []
+limit-of-01 = refl
 
 -- the tags afterwards
 pub allocated-tags : allocatedTags hitLimit (tags3 0x81 0x7F 0x00) 3 0 ∷ allocatedTags hitLimit (tags3 0x80 0x81 0x00) 3 0 ∷ [] ≡ tags3 0x81 0x80 0x00 ∷ tags3 0x80 0x81 0x00 ∷ []

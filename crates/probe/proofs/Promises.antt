@@ -14,7 +14,8 @@ use Rattle.ht_file.specs.Places.{imageFits}
 use Rattle.ht_file.proofs.Laws.{both-hold, image-fits-facts}
 use Rattle.meta_map.specs.Tags.{fullTag}
 use Rattle.meta_map.proofs.Laws.{kind-empty, full-tag-not-empty}
-use Rattle.probe.specs.Path.{visit, visits, pathFrom, hits, isEmpty, isTombstone, isFree, isHit, Stop, stopAt, nowhere, firstStop, sameBytes, pageEnd, holds, Sought, foundAt, absent, unreached, stopsLookup, lookupSaw, lookingUp, lookupAnswer, allocateAnswer, tagsAfter, allocatedTags}
+use Rattle.probe.specs.declared.Limit.{Limit}
+use Rattle.probe.specs.Path.{visit, visits, pathFrom, hits, isEmpty, isTombstone, isFree, isHit, Stop, stopAt, nowhere, firstStop, sameBytes, pageEnd, holds, Sought, foundAt, absent, unreached, stopsLookup, lookupSaw, lookingUp, lookupAnswer, allows, allocateAnswer, tagsAfter, allocatedTags}
 use Rattle.probe.proofs.Bytes.{same-equal, equal-same}
 use Rattle.probe.proofs.Tests.{empty-is}
 use Rattle.probe.proofs.Visits.{visit-below}
@@ -22,18 +23,18 @@ use Rattle.probe.proofs.Walk.{Passed, Stopped, stop-told, never-told}
 use Rattle.probe.proofs.Allocating.{given-told, answer-told, answer-below}
 
 -- bucket b is given at visit k: it is on the path, below n and was free, as no visit before; its tag is now the hash's and every other as before
-pub record AllocatedAt (limit : ℕ) (ts : List ℕ) (n h b k : ℕ) : Type 0 where
+pub record AllocatedAt (limit : Limit) (ts : List ℕ) (n h b k : ℕ) : Type 0 where
   pub within : k < 2 * n
   pub on-path : b ≡ visit n h k
   pub below : b < n
   pub was-free : isFree (getD ts b 0) ≡ true
   pub none-before : (j : ℕ) → j < k → isFree (getD ts (visit n h j) 0) ≡ false
-  pub few-hits : hits ts h (visits n h 0 k) ≤ limit
+  pub few-hits : allows limit (hits ts h (visits n h 0 k)) ≡ true
   pub tagged : getD (allocatedTags limit ts n h) b 0 ≡ fullTag h
   pub others : (i : ℕ) → (i ≡ b → ⊥) → getD (allocatedTags limit ts n h) i 0 ≡ getD ts i 0
   pub as-long : length (allocatedTags limit ts n h) ≡ length ts
 
-pub allocated-bucket : (limit : ℕ) (ts : List ℕ) (n h b : ℕ) → allocateAnswer limit ts n h ≡ given b → (k : ℕ) × AllocatedAt limit ts n h b k
+pub allocated-bucket : (limit : Limit) (ts : List ℕ) (n h b : ℕ) → allocateAnswer limit ts n h ≡ given b → (k : ℕ) × AllocatedAt limit ts n h b k
 allocated-bucket limit ts n h b e =
     let g = given-told limit ts n h b (answer-told limit ts n h b e .1) in
     let s = g .1 .stop in
@@ -54,7 +55,7 @@ allocated-bucket limit ts n h b e =
     )
 
 -- a refusal leaves every tag
-pub refused-leaves : (limit : ℕ) (ts : List ℕ) (n h m : ℕ) → allocateAnswer limit ts n h ≡ refused m → allocatedTags limit ts n h ≡ ts
+pub refused-leaves : (limit : Limit) (ts : List ℕ) (n h m : ℕ) → allocateAnswer limit ts n h ≡ refused m → allocatedTags limit ts n h ≡ ts
 refused-leaves limit ts n h m e = ap (λ (x : Answer ℕ). tagsAfter x ts h) e
 
 -- bucket b has the hash's tag, and its page ends in the id
@@ -180,7 +181,7 @@ module _ (img : List ℕ) (n h : ℕ) (id : List ℕ) where
 
 -- After an allocation at visit k, once a page that ends in the id stands in the bucket that was given and the tags are written, a lookup
 -- finds that bucket, or one at an earlier visit whose page ends in the same id.
-module _ (limit : ℕ) (ts : List ℕ) (n h b k : ℕ) (a : AllocatedAt limit ts n h b k) (img id : List ℕ) (fits : imageFits n (length img) ≡ true)
+module _ (limit : Limit) (ts : List ℕ) (n h b k : ℕ) (a : AllocatedAt limit ts n h b k) (img id : List ℕ) (fits : imageFits n (length img) ≡ true)
     (written : (i : ℕ) → i < n → getD img i 0 ≡ getD (allocatedTags limit ts n h) i 0) (stored : pageEnd img n b ≡ id) where
   pub stored-page : (j : ℕ) × (j ≤ k) × HasPage img n h id (visit n h j) × (lookupAnswer img n h id ≡ given (foundAt (visit n h j)))
   stored-page = found-by img n h id k fits (a .within) (subst (HasPage img n h id) (a .on-path) (written b (a .below) ∙ a .tagged, stored)) full
@@ -207,7 +208,7 @@ module _ (limit : ℕ) (ts : List ℕ) (n h b k : ℕ) (a : AllocatedAt limit ts
 
 -- The same of the two calls' answers alone: allocation gave the bucket, no other bucket of the table has the hash's tag and a page that
 -- ends in the id; then lookup answers that bucket.
-pub found-after-allocation : (limit : ℕ) (ts : List ℕ) (n h b : ℕ) → allocateAnswer limit ts n h ≡ given b → (img id : List ℕ) → imageFits n (length img) ≡ true
+pub found-after-allocation : (limit : Limit) (ts : List ℕ) (n h b : ℕ) → allocateAnswer limit ts n h ≡ given b → (img id : List ℕ) → imageFits n (length img) ≡ true
     → ((i : ℕ) → i < n → getD img i 0 ≡ getD (allocatedTags limit ts n h) i 0) → pageEnd img n b ≡ id
     → ((c : ℕ) → c < n → HasPage img n h id c → c ≡ b) → lookupAnswer img n h id ≡ given (foundAt b)
 found-after-allocation limit ts n h b gave img id fits written stored only =

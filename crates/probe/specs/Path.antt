@@ -1,18 +1,18 @@
 -- 01, 'Path': the visits of a hash, and what probing on, lookup and allocation answer. Assumes nothing.
-use mathlib.Core.Path.{_≡_}
 use mathlib.Core.Bool.{Bool, true, false, cond, _&&_, _||_}
 use mathlib.Core.List.{List, [], _∷_}
 use Prim.Native.Nat.{ℕ, zero, suc, _+_, _*_, _/_, _%_}
 use lib.Dec.{leb, ltb, eqb}
-use lib.ListN.{length, getD, set, take, drop}
-use Rattle.answers.specs.Answers.{Answer, given, refused}
+use lib.ListN.{getD, set, take, drop}
+use Rattle.answers.specs.Answers.{Answer, given, refused, andThen}
 use Rattle.answers.specs.Refusals.{numberOf}
-use Rattle.ht_file.specs.Places.{imageFits, pageStart}
-use Rattle.meta_map.specs.Tags.{empty, tombstone, kindOf, isKind, fullTag, one, ifTags}
-use Rattle.probe.specs.declared.ProbeSequence.{ProbeSequence}
+use Rattle.ht_file.specs.Places.{pageStart, ifTags, ifImage}
+use Rattle.meta_map.specs.Tags.{empty, tombstone, kindOf, isKind, fullTag, one}
+use Rattle.probe.specs.declared.Limit.{Limit}
 use Rattle.probe.specs.declared.Probed.{Probed}
 use Rattle.probe.specs.declared.Found.{Found}
 use Rattle.probe.specs.declared.Allocated.{Allocated}
+use Rattle.probe.specs.declared.Limit.the-variants as limit
 use Rattle.probe.specs.declared.Probed.the-variants as probed
 use Rattle.probe.specs.declared.Found.the-variants as found
 use Rattle.probe.specs.declared.Allocated.the-variants as allocated
@@ -103,40 +103,55 @@ pub data Sought : Type 0 where
 abbrev pub stopsLookup : List ℕ → ℕ → ℕ → List ℕ → ℕ → Bool
 stopsLookup img n h id b = isEmpty (getD img b 0) || holds img n h id b
 
+abbrev pub lookupStop : List ℕ → ℕ → ℕ → List ℕ → Stop
+lookupStop img n h id = firstStop (stopsLookup img n h id) 0 (pathFrom n h 0)
+
+-- the visit of the stop is dropped here
 abbrev pub lookupSaw : List ℕ → Stop → Sought
 lookupSaw img (stopAt b k) = cond (isEmpty (getD img b 0)) absent (foundAt b)
 lookupSaw img nowhere = unreached
 
 unfoldable pub lookingUp : List ℕ → ℕ → ℕ → List ℕ → Sought
 unfolding visits firstStop sameBytes
-lookingUp img n h id = lookupSaw img (firstStop (stopsLookup img n h id) 0 (pathFrom n h 0))
+lookingUp img n h id = lookupSaw img (lookupStop img n h id)
 
 abbrev pub lookupAnswer : List ℕ → ℕ → ℕ → List ℕ → Answer Sought
-lookupAnswer img n h id = cond (imageFits n (length img)) (given (lookingUp img n h id)) (refused 1)
+lookupAnswer img n h id = ifImage img n (given (lookingUp img n h id))
 
--- "Allocation takes the first visit that is empty or a tombstone, if at most 9,998 hits come before it [..] Otherwise 10 if the path has a
--- hit, 11 if it has none"; the limit is the first argument
+-- "if at most 9,998 hits come before it": so many, or any number of them
+abbrev pub hitLimit : Limit
+hitLimit = limit.Hits 9998
+
+abbrev pub allows : Limit → ℕ → Bool
+allows (limit.Hits most) k = leb k most
+allows limit.Unlimited k = true
+
+-- "Otherwise 10 if the path has a hit, 11 if it has none"; without a limit hits do not matter
+abbrev pub noBucketBy : Limit → ℕ → ℕ
+noBucketBy (limit.Hits most) k = cond (ltb 0 k) 10 11
+noBucketBy limit.Unlimited k = 11
+
+-- "Allocation takes the first visit that is empty or a tombstone"; the limit is the first argument
 abbrev pub freeAt : List ℕ → ℕ → Bool
 freeAt ts b = isFree (getD ts b 0)
 
 abbrev pub freeStop : List ℕ → ℕ → ℕ → Stop
 freeStop ts n h = firstStop (freeAt ts) 0 (pathFrom n h 0)
 
-abbrev pub noBucket : List ℕ → ℕ → ℕ → Answer ℕ
-noBucket ts n h = cond (ltb 0 (hits ts h (pathFrom n h 0))) (refused 10) (refused 11)
+abbrev pub noBucket : {A : Type 0} → Limit → List ℕ → ℕ → ℕ → Answer A
+noBucket limit ts n h = refused (noBucketBy limit (hits ts h (pathFrom n h 0)))
 
-abbrev pub allocationSaw : ℕ → List ℕ → ℕ → ℕ → Stop → Answer ℕ
-allocationSaw limit ts n h (stopAt b k) = cond (leb (hits ts h (visits n h 0 k)) limit) (given b) (noBucket ts n h)
-allocationSaw limit ts n h nowhere = noBucket ts n h
+-- the bucket that is given, with its visit
+abbrev pub allocationSaw : Limit → List ℕ → ℕ → ℕ → Stop → Answer (ℕ × ℕ)
+allocationSaw limit ts n h (stopAt b k) = cond (allows limit (hits ts h (visits n h 0 k))) (given (b, k)) (noBucket limit ts n h)
+allocationSaw limit ts n h nowhere = noBucket limit ts n h
 
-unfoldable pub allocating : ℕ → List ℕ → ℕ → ℕ → Answer ℕ
+-- the visit is dropped here
+unfoldable pub allocating : Limit → List ℕ → ℕ → ℕ → Answer ℕ
 unfolding visits firstStop hits
-allocating limit ts n h = allocationSaw limit ts n h (freeStop ts n h)
+allocating limit ts n h = andThen (allocationSaw limit ts n h (freeStop ts n h)) (λ v. given (v .0))
 
-abbrev pub hitLimit : ℕ
-hitLimit = 9998
-
-abbrev pub allocateAnswer : ℕ → List ℕ → ℕ → ℕ → Answer ℕ
+abbrev pub allocateAnswer : Limit → List ℕ → ℕ → ℕ → Answer ℕ
 allocateAnswer limit ts n h = ifTags ts n (allocating limit ts n h)
 
 -- "and writes the full tag": the tags afterwards
@@ -144,7 +159,7 @@ abbrev pub tagsAfter : Answer ℕ → List ℕ → ℕ → List ℕ
 tagsAfter (given b) ts h = set ts b (fullTag h)
 tagsAfter (refused m) ts h = ts
 
-abbrev pub allocatedTags : ℕ → List ℕ → ℕ → ℕ → List ℕ
+abbrev pub allocatedTags : Limit → List ℕ → ℕ → ℕ → List ℕ
 allocatedTags limit ts n h = tagsAfter (allocateAnswer limit ts n h) ts h
 
 -- what each case of the code's answers says
@@ -164,7 +179,3 @@ foundSaid (found.Refused r) = refused (numberOf r)
 abbrev pub allocatedSaid : Allocated → Answer ℕ
 allocatedSaid (allocated.At b) = given b
 allocatedSaid (allocated.Refused r) = refused (numberOf r)
-
--- a walk's state stands at its visit, and its step leads to the next one
-abbrev pub stands : ℕ → ProbeSequence → Type 0
-stands n p = (p .bucket ≡ visit n (p .hash) (p .visit)) × (p .step ≡ (p .visit + 1) % n)

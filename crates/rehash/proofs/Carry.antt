@@ -15,14 +15,15 @@ use Rattle.answers.specs.Answers.{Answer, given, refused}
 use Rattle.answers.proofs.Laws.{given-one}
 use Rattle.blocks.specs.Blocks.{put}
 use Rattle.blocks.proofs.Laws.{block-length}
-use Rattle.ht_file.specs.Places.{countAllowed, tagsLength, imageLength, imageFits, pageStart}
+use Rattle.ht_file.specs.Places.{countAllowed, tagsLength, imageLength, imageFits, pageStart, tagsOf}
 use Rattle.ht_file.proofs.Laws.{allowed-bounds, image-fits-facts}
-use Rattle.meta_map.specs.Tags.{full, fullTag, one, countOf}
+use Rattle.meta_map.specs.Tags.{full, fullTag, one, countOf, isFull}
 use Rattle.meta_map.proofs.Laws.{full-tag-not-empty, count-suc}
 use Rattle.probe.specs.Path.{visit, isFree, allocating}
 use Rattle.probe.proofs.Visits.{visit-below}
 use Rattle.probe.proofs.Promises.{AllocatedAt, allocated-bucket}
-use Rattle.rehash.specs.Growth.{tagsOf, pageAt, isFull, stored, zeroed, bucketMoved, grownTo}
+use Rattle.probe.specs.declared.Limit.{Limit}
+use Rattle.rehash.specs.Growth.{pageAt, stored, zeroed, bucketMoved, grownTo}
 use Rattle.rehash.proofs.Moves.{allocation-is, grown-none, grown-next, grown-stop}
 use Rattle.rehash.proofs.Stores.{full-not-free, free-not-full, tag-of, store-long, store-tag, store-tag-other, store-page, store-page-other, store-count, zero-at, zero-page, none-full}
 
@@ -50,7 +51,7 @@ pub record Carried (old : List ℕ) (oldN newN : ℕ) (hashes : List ℕ) (k : �
   pub padding : (i : ℕ) → newN ≤ i → i < tagsLength newN → getD img i 0 ≡ 0x00
   pub as-many : countOf full img newN ≡ countOf full old k
 
-module _ (limit : ℕ) (old : List ℕ) (oldN newN : ℕ) (hashes : List ℕ) (some : 1 ≤ newN) (fits : imageFits newN (imageLength newN) ≡ true) where
+module _ (limit : Limit) (old : List ℕ) (oldN newN : ℕ) (hashes : List ℕ) (some : 1 ≤ newN) (fits : imageFits newN (imageLength newN) ≡ true) where
   carried-none : Carried old oldN newN hashes 0 (zeroed newN)
   unfolding countOf
   carried-none =

@@ -9,15 +9,16 @@ use lib.Dec.{eqb}
 use lib.ListN.{length, getD, set, take, drop, take-append-drop, length-set}
 use lib.Seq.{set-append-left, length-take-le}
 use borrow.Author.Tests.{eq-eqb, ne-eqb, lt-ltb, le-ltb}
-use Rattle.answers.specs.Answers.{Answer, given, refused}
+use Rattle.answers.specs.Answers.{Answer, given, refused, andThen}
 use Rattle.blocks.specs.Blocks.{put}
 use Rattle.blocks.proofs.Laws.{put-length}
-use Rattle.ht_file.specs.Places.{countAllowed, tagsLength, imageLength, tagsFit, imageFits, pageStart}
+use Rattle.ht_file.specs.Places.{countAllowed, tagsLength, imageLength, tagsFit, imageFits, pageStart, tagsOf}
 use Rattle.ht_file.proofs.Laws.{both-hold, image-fits-facts}
-use Rattle.meta_map.specs.Tags.{fullTag}
+use Rattle.meta_map.specs.Tags.{fullTag, isFull}
 use Rattle.probe.specs.Path.{allocating, allocateAnswer}
 use Rattle.probe.proofs.Allocating.{answer-below}
-use Rattle.rehash.specs.Growth.{tagsOf, pageAt, isFull, stored, zeroed, bucketMoved, andThen, grownTo, copied, done, lengthsFit, endOf, growthAnswer, imageOr, growthImage}
+use Rattle.probe.specs.declared.Limit.{Limit}
+use Rattle.rehash.specs.Growth.{pageAt, stored, zeroed, bucketMoved, grownTo, copied, done, lengthsFit, endOf, growthAnswer, imageOr, growthImage}
 
 module _ (n : ℕ) (img : List ℕ) (fits : imageFits n (length img) ≡ true) where
   pub tags-long : length (tagsOf n img) ≡ tagsLength n
@@ -28,10 +29,10 @@ module _ (n : ℕ) (img : List ℕ) (fits : imageFits n (length img) ≡ true) w
   tags-fit = ap₂ _&&_ (both-hold (countAllowed n) (eqb (length img) (imageLength n)) fits .0) (eq-eqb (length (tagsOf n img)) (tagsLength n) tags-long)
 
   -- so allocation there is not refused for the table
-  pub allocation-is : (limit h : ℕ) → allocateAnswer limit (tagsOf n img) n h ≡ allocating limit (tagsOf n img) n h
+  pub allocation-is : (limit : Limit) (h : ℕ) → allocateAnswer limit (tagsOf n img) n h ≡ allocating limit (tagsOf n img) n h
   allocation-is limit h = rw tags-fit
 
-  pub given-below : (limit h b : ℕ) → allocating limit (tagsOf n img) n h ≡ given b → b < n
+  pub given-below : (limit : Limit) (h b : ℕ) → allocating limit (tagsOf n img) n h ≡ given b → b < n
   given-below limit h b e = answer-below limit (tagsOf n img) n h b (allocation-is limit h ∙ e) .0
 
   -- a tag written in the tag pages, said of the image
@@ -39,7 +40,7 @@ module _ (n : ℕ) (img : List ℕ) (fits : imageFits n (length img) ≡ true) w
   tag-set b t l =
       sym (set-append-left (tagsOf n img) (drop (tagsLength n) img) b t (omega (arith, tags-long))) ∙ ap (λ (s : List ℕ). set s b t) (take-append-drop (tagsLength n) img)
 
-module _ (limit : ℕ) (old : List ℕ) (oldN newN h b : ℕ) (img : List ℕ) where
+module _ (limit : Limit) (old : List ℕ) (oldN newN h b : ℕ) (img : List ℕ) where
   pub moved-other : isFull (getD old b 0) ≡ false → bucketMoved limit old oldN newN h b img ≡ given img
   moved-other e = rw e
 
@@ -57,7 +58,7 @@ module _ (limit : ℕ) (old : List ℕ) (oldN newN h b : ℕ) (img : List ℕ) w
       go false a q = let z : img ≡ img′ = cc in ap length (sym z)
 
 -- the buckets one after the other
-module _ (limit : ℕ) (old : List ℕ) (oldN newN : ℕ) (hashes : List ℕ) where
+module _ (limit : Limit) (old : List ℕ) (oldN newN : ℕ) (hashes : List ℕ) where
   pub grown-none : grownTo limit old oldN newN hashes 0 ≡ given (zeroed newN)
   unfolding grownTo
   grown-none = refl
@@ -87,7 +88,7 @@ end-refused (given a) m e = let z : _≡_ {A = ℕ} 0 1 = cc in absurd (omega ar
 end-refused (refused k) m e = let z : m ≡ k = cc in ap refused (sym z)
 
 -- the counts allow a growth: then it goes by the lengths
-module _ (limit : ℕ) (old : List ℕ) (oldN : ℕ) (new : List ℕ) (newN : ℕ) (hashes : List ℕ) (p : countAllowed oldN ≡ true) (q : countAllowed newN ≡ true) (l : oldN < newN) where
+module _ (limit : Limit) (old : List ℕ) (oldN : ℕ) (new : List ℕ) (newN : ℕ) (hashes : List ℕ) (p : countAllowed oldN ≡ true) (q : countAllowed newN ≡ true) (l : oldN < newN) where
   pub copy-by-lengths : (t : Bool) → lengthsFit old oldN new newN hashes ≡ t
       → (cond t (endOf done (copied limit old oldN newN hashes)) (refused 2) ≡ growthAnswer limit old oldN new newN hashes)
       × (cond t (imageOr (zeroed newN) (copied limit old oldN newN hashes)) new ≡ growthImage limit old oldN new newN hashes)

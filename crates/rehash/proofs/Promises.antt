@@ -7,42 +7,27 @@ use mathlib.Core.Logic.{_⊎_, inl, inr, ⊎-elim}
 use Prim.Native.Nat.{ℕ, zero, suc, _+_, _*_, _≤_, _<_}
 use native.Mathlib.Omega.{arith}
 use native.Mathlib.Numerals.{add-one}
-use lib.Dec.{leb, ltb, eqb}
+use lib.Dec.{ltb, eqb}
 use lib.ListN.{length, getD, take, drop, length-replicate}
 use borrow.Author.Tests.{lt-ltb, le-ltb, ltb-true, ltb-false, eqb-true, eqb-false, eq-eqb}
 use Rattle.answers.specs.Answers.{Answer, given, refused}
 use Rattle.answers.proofs.Laws.{given-refused, refused-one}
-use Rattle.ht_file.specs.Places.{countAllowed, tagsLength, imageLength, imageFits, pageStart}
+use Rattle.ht_file.specs.Places.{countAllowed, tagsLength, imageLength, imageFits, pageStart, tagsOf}
 use Rattle.ht_file.proofs.Laws.{both-hold, allowed-bounds}
-use Rattle.meta_map.specs.Tags.{full, fullTag, countOf}
+use Rattle.meta_map.specs.Tags.{full, fullTag, countOf, isFull}
 use Rattle.meta_map.proofs.Laws.{full-tag-not-empty}
-use Rattle.probe.specs.Path.{visit, hits, pathFrom, Stop, stopAt, nowhere, freeStop, noBucket, allocationSaw, allocating, hitLimit, pageEnd, foundAt, lookupAnswer}
+use Rattle.probe.specs.Path.{visit, allocating, pageEnd, foundAt, lookupAnswer}
 use Rattle.probe.proofs.Visits.{visit-below}
-use Rattle.probe.proofs.Allocating.{hitsTo}
+use Rattle.probe.proofs.Allocating.{refused-numbers}
 use Rattle.probe.proofs.Promises.{HasPage, found-by}
-use Rattle.rehash.specs.Growth.{tagsOf, pageAt, isFull, stored, zeroed, bucketMoved, grownTo, copied, Growth, done, nothingToDo, lengthsFit, endOf, growthAnswer, imageOr, goesOn, growthImage}
+use Rattle.probe.specs.declared.Limit.{Limit}
+use Rattle.rehash.specs.Growth.{pageAt, stored, zeroed, bucketMoved, grownTo, copied, Growth, done, nothingToDo, lengthsFit, endOf, growthAnswer, imageOr, goesOn, growthImage}
 use Rattle.rehash.proofs.Moves.{grown-none, grown-next, grown-stop}
 use Rattle.rehash.proofs.Stores.{page-ends}
 use Rattle.rehash.proofs.Carry.{Moved, Untouched, Carried, carried}
 
 -- ---- a refusal of the copy is 10 or 11
-allocation-refused : (limit : ℕ) (ts : List ℕ) (n h m : ℕ) → allocating limit ts n h ≡ refused m → (m ≡ 10) ⊎ (m ≡ 11)
-unfolding allocating
-allocation-refused limit ts n h m e = go (freeStop ts n h) e
-  where
-    none : (t : Bool) → _≡_ {A = Answer ℕ} (cond t (refused 10) (refused 11)) (refused m) → (m ≡ 10) ⊎ (m ≡ 11)
-    none true q = inl (sym (refused-one {A = ℕ} 10 m q))
-    none false q = inr (sym (refused-one {A = ℕ} 11 m q))
-
-    test : (b : ℕ) (t : Bool) → cond t (given b) (noBucket ts n h) ≡ refused m → (m ≡ 10) ⊎ (m ≡ 11)
-    test b true q = absurd (given-refused b m q)
-    test b false q = none (ltb 0 (hits ts h (pathFrom n h 0))) q
-
-    go : (s : Stop) → allocationSaw limit ts n h s ≡ refused m → (m ≡ 10) ⊎ (m ≡ 11)
-    go (stopAt b k) q = test b (leb (hitsTo ts n h k) limit) q
-    go nowhere q = none (ltb 0 (hits ts h (pathFrom n h 0))) q
-
-copy-refused : (limit : ℕ) (old : List ℕ) (oldN newN : ℕ) (hashes : List ℕ) (k m : ℕ) → grownTo limit old oldN newN hashes k ≡ refused m → (m ≡ 10) ⊎ (m ≡ 11)
+copy-refused : (limit : Limit) (old : List ℕ) (oldN newN : ℕ) (hashes : List ℕ) (k m : ℕ) → grownTo limit old oldN newN hashes k ≡ refused m → (m ≡ 10) ⊎ (m ≡ 11)
 copy-refused limit old oldN newN hashes zero m e = absurd (given-refused (zeroed newN) m (sym (grown-none limit old oldN newN hashes) ∙ e))
 copy-refused limit old oldN newN hashes (suc k) m e = go (grownTo limit old oldN newN hashes k) refl (copy-refused limit old oldN newN hashes k)
   where
@@ -51,7 +36,7 @@ copy-refused limit old oldN newN hashes (suc k) m e = go (grownTo limit old oldN
     step img true (given c) p q = let z : _≡_ {A = ℕ} 0 1 = cc in absurd (omega arith)
     step img true (refused j) p q =
         let z : j ≡ m = refused-one {A = List ℕ} j m q in
-        allocation-refused limit (tagsOf newN img) newN (getD hashes k 0) m (p ∙ ap refused z)
+        refused-numbers limit (tagsOf newN img) newN (getD hashes k 0) m (p ∙ ap refused z)
     step img false a p q = absurd (given-refused img m q)
 
     go : (x : Answer (List ℕ)) → grownTo limit old oldN newN hashes k ≡ x → ((j : ℕ) → grownTo limit old oldN newN hashes k ≡ refused j → (j ≡ 10) ⊎ (j ≡ 11)) → (m ≡ 10) ⊎ (m ≡ 11)
@@ -69,7 +54,7 @@ not-done : given nothingToDo ≡ given done → ⊥
 not-done e = let z : _≡_ {A = ℕ} 0 1 = cc in omega arith
 
 -- ---- how an answer came about
-module _ (limit : ℕ) (old : List ℕ) (oldN : ℕ) (new : List ℕ) (newN : ℕ) (hashes : List ℕ) where
+module _ (limit : Limit) (old : List ℕ) (oldN : ℕ) (new : List ℕ) (newN : ℕ) (hashes : List ℕ) where
   -- the copy was made
   pub record Made : Type 0 where
     pub old-allowed : countAllowed oldN ≡ true

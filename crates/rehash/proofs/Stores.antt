@@ -10,12 +10,12 @@ use lib.ListN.{length, getD, set, take, drop, replicate, length-set, length-drop
 use lib.Seq.{getD-set-same, getD-set-other, getD-take, getD-drop, length-take-le, ext-getD}
 use Rattle.blocks.specs.Blocks.{block, put}
 use Rattle.blocks.proofs.Laws.{put-length, put-left, block-length, block-getD, block-same, block-put-sized, block-put-apart}
-use Rattle.ht_file.specs.Places.{tagPages, tagsLength, imageLength, pageStart}
-use Rattle.meta_map.specs.Tags.{Kind, empty, tombstone, full, other, kindOf, isKind, fullTag, one, countOf}
+use Rattle.ht_file.specs.Places.{tagPages, tagsLength, imageLength, pageStart, tagsOf}
+use Rattle.meta_map.specs.Tags.{Kind, empty, tombstone, full, other, kindOf, isKind, fullTag, one, countOf, isFull}
 use Rattle.meta_map.proofs.Laws.{full-tag-kind, full-tag-not-empty, full-tag-not-tombstone, kind-full, count-agree, count-set}
 use Rattle.probe.specs.Path.{isFree, pageEnd}
 use Rattle.probe.proofs.Tests.{free-not}
-use Rattle.rehash.specs.Growth.{tagsOf, pageAt, isFull, zeroed}
+use Rattle.rehash.specs.Growth.{pageAt, zeroed}
 
 -- a full tag is full and not free
 pub full-tag-full : (h : ℕ) → isFull (fullTag h) ≡ true

@@ -7,7 +7,7 @@ ghost use Prim.Native.Nat.{_+_, _≤_, _<_};
 ghost use lib.ListN.{length, getD, replicate};
 ghost use Rattle.answers.specs.Answers.{outcomeSaid};
 ghost use Rattle.blocks.specs.Blocks.{block, put};
-ghost use Rattle.ht_file.specs.Places.{imageFits, imageLength};
+ghost use Rattle.ht_file.specs.Places.{imageFits};
 ghost use Rattle.probe.specs.Path.{hitLimit};
 ghost use Rattle.rehash.specs.Marker.{writeAnswer, writtenMarker, readAnswer, markerSaid};
 ghost use Rattle.rehash.specs.Pending.{pendingAnswer, decisionSaid};
@@ -102,32 +102,19 @@ pub fn read_marker(bytes: &[u8]) -> MarkerRead
     MarkerRead::Is { old, new }
 }
 
-// How long the image of n buckets is; none has length 0.
-fn image_length(n: u64) -> u64
-    requires { ⌜ n ≤ 1048576 ⌝ }
-    ensures { λ r. ⌜ r ≡ imageLength n ⌝ }
-{
-    4096 * ((n + 4095) / 4096 + n)
-}
-
 // What is left to do of a growth from `old` to `new` buckets that was stopped, where the metadata say
 // `meta` buckets and the table's file is `file_len` long.
 pub fn pending(old: u64, new: u64, meta: u64, file_len: u64) -> Decision
     ensures { λ r. ⌜ decisionSaid r ≡ pendingAnswer old new meta «file_len» ⌝ }
 {
-    if 1048576 < old {
-        return Decision::Refused(Refusal::TableUnfit);
-    }
-    if 1048576 < new {
-        return Decision::Refused(Refusal::TableUnfit);
-    }
-    if 1048576 < meta {
-        return Decision::Refused(Refusal::TableUnfit);
+    let fit = ht_file::check_limits(old, new, meta);
+    if let Outcome::Refused(why) = fit {
+        return Decision::Refused(why);
     }
     if new <= old {
         return Decision::Refused(Refusal::MarkerOrder);
     }
-    let new_len = image_length(new);
+    let new_len = ht_file::page_start(new as usize, new as usize) as u64;
     if meta == new {
         if file_len == new_len {
             return Decision::Tidy;
@@ -138,7 +125,7 @@ pub fn pending(old: u64, new: u64, meta: u64, file_len: u64) -> Decision
         if file_len == new_len {
             return Decision::UpdateMetaThenTidy;
         }
-        let old_len = image_length(old);
+        let old_len = ht_file::page_start(old as usize, old as usize) as u64;
         if file_len == old_len {
             return Decision::Tidy;
         }
@@ -172,13 +159,12 @@ fn move_bucket(
     ensures { λ r. ⌜ (outcomeSaid r ≡ endOf tt (bucketMoved hitLimit (now («old_image» .entry)) «old_n» «new_n» hash b (now («new_image» .entry)))) × (now («new_image» .exit) ≡ imageOr (now («new_image» .entry)) (bucketMoved hitLimit (now («old_image» .entry)) «old_n» «new_n» hash b (now («new_image» .entry)))) ⌝ }
 {
     if meta_map::is_full(old_image[b]) {
-        let pages = (new_n + 4095) / PAGE_SIZE;
-        let tags = PAGE_SIZE * pages;
-        let r = probe::allocate_bucket(&mut new_image[..tags], new_n, hash);
+        let tags = ht_file::page_start(new_n, 0);
+        let r = probe::allocate_bucket(&mut new_image[..tags], new_n, hash, probe::hit_limit());
         match r {
             Allocated::At(bucket) => {
-                let at = PAGE_SIZE * (pages + bucket as usize);
-                let from = PAGE_SIZE * ((old_n + 4095) / PAGE_SIZE + b);
+                let at = ht_file::page_start(new_n, bucket as usize);
+                let from = ht_file::page_start(old_n, b);
                 copy_page(new_image, at, old_image, from);
                 return Outcome::Done;
             }
@@ -228,23 +214,24 @@ pub fn grow(
 ) -> Grown
     ensures { λ r. ⌜ (grownSaid r ≡ growthAnswer hitLimit (now («old_image» .entry)) «old_n» (now («new_image» .entry)) «new_n» (now (hashes .entry))) × (now («new_image» .exit) ≡ growthImage hitLimit (now («old_image» .entry)) «old_n» (now («new_image» .entry)) «new_n» (now (hashes .entry))) ⌝ }
 {
-    if ht_file::count_allowed(old_n) {
-        if ht_file::count_allowed(new_n) {
-            if new_n < old_n {
-                return Grown::Refused(Refusal::WouldShrink);
-            }
-            if new_n == old_n {
-                return Grown::NothingToDo;
-            }
-            if ht_file::image_fits(old_n, old_image.len()) {
-                if ht_file::image_fits(new_n, new_image.len()) {
-                    if hashes.len() == old_n {
-                        return rehash_to(old_image, old_n, new_image, new_n, hashes);
-                    }
-                }
-            }
-            return Grown::Refused(Refusal::LengthUnfit);
-        }
+    let fit = ht_file::check_counts(old_n, new_n);
+    if let Outcome::Refused(why) = fit {
+        return Grown::Refused(why);
     }
-    Grown::Refused(Refusal::TableUnfit)
+    if new_n < old_n {
+        return Grown::Refused(Refusal::WouldShrink);
+    }
+    if new_n == old_n {
+        return Grown::NothingToDo;
+    }
+    if old_image.len() != ht_file::page_start(old_n, old_n) {
+        return Grown::Refused(Refusal::LengthUnfit);
+    }
+    if new_image.len() != ht_file::page_start(new_n, new_n) {
+        return Grown::Refused(Refusal::LengthUnfit);
+    }
+    if hashes.len() != old_n {
+        return Grown::Refused(Refusal::LengthUnfit);
+    }
+    rehash_to(old_image, old_n, new_image, new_n, hashes)
 }

@@ -2,6 +2,7 @@
 -- at change j has the memory of the first j changes. Assumes nothing.
 use mathlib.Core.Path.{_≡_, refl, sym, ap, ap₂, _∙_, subst}
 use mathlib.Core.Bool.{Bool, true, false, cond, _&&_}
+use mathlib.Core.Logic.{⊎-elim}
 use mathlib.Core.List.{List, [], _∷_}
 use Prim.Native.Nat.{ℕ, zero, suc, _+_, _*_, _/_, _≤_, _<_}
 use native.Mathlib.Omega.{arith}
@@ -15,7 +16,9 @@ use Rattle.blocks.proofs.Laws.{put-length}
 use Rattle.ht_file.specs.Places.{tagsFit, tagPages}
 use Rattle.meta_map.specs.Tags.{fullTag}
 use Rattle.page_diff.specs.Diff.{marked, countOf}
-use Rattle.probe.specs.Path.{visits, pathFrom, hits, Stop, stopAt, nowhere, freeStop, noBucket, allocationSaw, allocating, hitLimit}
+use Rattle.probe.specs.declared.Limit.{Limit}
+use Rattle.probe.specs.Path.{allocating, hitLimit}
+use Rattle.probe.proofs.Allocating.{refused-numbers}
 use Rattle.wal.specs.Log.{recordOf, startRecord, startSize, finishedLength, clearSize, updateSize}
 use Rattle.wal.specs.Writer.{openAt, position, capacity, ifOpen, ifRoom, beginAnswer, beginLog, logBy, finishAnswer}
 use Rattle.wal.specs.declared.Writer.{Writer}
@@ -180,21 +183,9 @@ does-number n tags cells c k e = spare (marked (c .diff .words) 126) (marked (c 
     spare true cl q = subst OfChange (refused-one 4 k q) reserved-bit
     spare false cl q = named cl (namedBy (whereOf (c .place)) cells) (only-cells (whereOf (c .place))) q
 
-allocation-number : (limit : ℕ) (ts : List ℕ) (n h k : ℕ) → allocating limit ts n h ≡ refused k → OfChange k
-unfolding allocating
-allocation-number limit ts n h k e = go (freeStop ts n h) e
-  where
-    none-free : (t : Bool) → _≡_ {A = Answer ℕ} (cond t (refused 10) (refused 11)) (refused k) → OfChange k
-    none-free true q = subst OfChange (refused-one {A = ℕ} 10 k q) path-crowded
-    none-free false q = subst OfChange (refused-one {A = ℕ} 11 k q) path-closed
-
-    test : (b : ℕ) (t : Bool) → cond t (given b) (noBucket ts n h) ≡ refused k → OfChange k
-    test b true q = absurd (given-refused b k q)
-    test b false q = none-free (ltb 0 (hits ts h (pathFrom n h 0))) q
-
-    go : (s : Stop) → allocationSaw limit ts n h s ≡ refused k → OfChange k
-    go (stopAt b j) q = test b (leb (hits ts h (visits n h 0 j)) limit) q
-    go nowhere q = none-free (ltb 0 (hits ts h (pathFrom n h 0))) q
+allocation-number : (limit : Limit) (ts : List ℕ) (n h k : ℕ) → allocating limit ts n h ≡ refused k → OfChange k
+allocation-number limit ts n h k e =
+    ⊎-elim (λ (q : k ≡ 10). subst OfChange (sym q) path-crowded) (λ (q : k ≡ 11). subst OfChange (sym q) path-closed) (refused-numbers limit ts n h k e)
 
 module _ (st : SyncState) (m : Mem) (c : Change) (k : ℕ) where
   with-room : (r : Bool) (a : Answer Effect) → (a ≡ refused k → OfChange k) → cond r a (refused 13) ≡ refused k → OfChange k

@@ -19,8 +19,8 @@ use Rattle.answers.specs.declared.Outcome.{Outcome}
 use Rattle.answers.specs.declared.Outcome.the-variants as outcome
 use Rattle.answers.proofs.Outcome as OutcomeT
 use Rattle.answers.proofs.Laws.{given-refused, refused-one}
-use Rattle.ht_file.specs.Places.{tagsFit, tagPages}
-use Rattle.meta_map.specs.Tags.{full, countOf, ifTags}
+use Rattle.ht_file.specs.Places.{tagsFit, tagPages, ifTags}
+use Rattle.meta_map.specs.Tags.{full, countOf}
 use Rattle.wal.specs.Log.{startRecord, startSize}
 use Rattle.wal.specs.Writer.{openAt, logBy, writerBy, beginAnswer, beginLog, beginWriter, finishAnswer, finishLog, finishWriter}
 use Rattle.wal.specs.declared.Writer.{Writer}

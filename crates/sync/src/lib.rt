@@ -259,7 +259,7 @@ fn look_ahead(tags: &[u8], cells: &[u64], log: &[u8], c: Change, st: SyncState) 
         }
         Planned::Allocates => {
             if wal_write::has_room(log.len(), w, wal::UPDATE_SIZE + 32 * page_diff::count(d)) {
-                let found = probe::find_bucket(tags, n, c.hash);
+                let found = probe::find_bucket(tags, n, c.hash, probe::hit_limit());
                 match found {
                     Allocated::At(b) => Outlook::Takes(b),
                     Allocated::Refused(why) => Outlook::Refused(why),

@@ -12,17 +12,18 @@ use lib.Seq.{length-take-le, getD-take}
 use borrow.Author.Tests.{eq-eqb, ne-eqb}
 use types.Run.{OneOf}
 use denote.Enum.Declared.{tagOf}
-use Rattle.answers.specs.Answers.{Answer, given, refused, truthSaid}
+use Rattle.answers.specs.Answers.{Answer, given, refused, truthSaid, andThen}
 use Rattle.answers.specs.Refusals.{numberOf}
 use Rattle.answers.specs.declared.Truth.{Truth}
 use Rattle.answers.specs.declared.Truth.the-variants as T
 use Rattle.answers.proofs.Truth as TruthT
 use Rattle.answers.proofs.Laws.{given-one, given-refused}
-use Rattle.ht_file.specs.Places.{countAllowed, tagsLength, imageLength, tagsFit, imageFits}
-use Rattle.ht_file.proofs.Laws.{both-hold, image-fits-facts}
-use Rattle.meta_map.specs.Tags.{full, countOf, paddingEmpty, ifTags}
+use Rattle.ht_file.specs.Places.{countAllowed, tagsLength, imageLength, tagsFit, imageFits, tagsOf, ifTags, ifTable}
+use Rattle.ht_file.proofs.Laws.{both-hold, image-fits-facts, table-unfit}
+use Rattle.meta_map.specs.Tags.{full, countOf, paddingEmpty}
 use Rattle.meta_map.proofs.Laws.{count-agree}
-use Rattle.validate.specs.Audit.{tagsOf, doubled, pathAudit, bucketAudit, andThen, auditedTo, auditOf, auditAnswer, pathsTo, FirstDoubled}
+use Rattle.validate.specs.Audit.{doubled, pathAudit, bucketAudit, auditedTo, auditOf, auditAnswer}
+use Rattle.validate.specs.InnerAudit.{pathsTo, FirstDoubled}
 
 module _ (img : List ℕ) (n : ℕ) (hashes : List ℕ) where
   pub paths-none : pathsTo img n hashes 0 ≡ given tt
@@ -31,7 +32,7 @@ module _ (img : List ℕ) (n : ℕ) (hashes : List ℕ) where
 
   pub paths-next : (k : ℕ) → pathsTo img n hashes k ≡ given tt → pathsTo img n hashes (k + 1) ≡ pathAudit img n (getD hashes k 0) k
   unfolding pathsTo
-  paths-next k e = ap (pathsTo img n hashes) (add-one k) ∙ ap (λ (a : Answer (Unit {0})). andThen a (pathAudit img n (getD hashes k 0) k)) e
+  paths-next k e = ap (pathsTo img n hashes) (add-one k) ∙ ap (λ (a : Answer (Unit {0})). andThen a (λ _. pathAudit img n (getD hashes k 0) k)) e
 
   -- a refusal stays
   pub paths-stop : (k m d : ℕ) → pathsTo img n hashes k ≡ refused m → pathsTo img n hashes (k + d) ≡ refused m
@@ -39,25 +40,25 @@ module _ (img : List ℕ) (n : ℕ) (hashes : List ℕ) where
   paths-stop k m zero e = let z : k + 0 ≡ k = omega arith in ap (pathsTo img n hashes) z ∙ e
   paths-stop k m (suc d) e =
       let z : k + suc d ≡ suc (k + d) = omega arith in
-      ap (pathsTo img n hashes) z ∙ ap (λ (a : Answer (Unit {0})). andThen a (pathAudit img n (getD hashes (k + d) 0) (k + d))) (paths-stop k m d e)
+      ap (pathsTo img n hashes) z ∙ ap (λ (a : Answer (Unit {0})). andThen a (λ _. pathAudit img n (getD hashes (k + d) 0) (k + d))) (paths-stop k m d e)
 
   audited-stop : (k m d : ℕ) → auditedTo img n hashes k ≡ refused m → auditedTo img n hashes (k + d) ≡ refused m
   unfolding auditedTo
   audited-stop k m zero e = let z : k + 0 ≡ k = omega arith in ap (auditedTo img n hashes) z ∙ e
   audited-stop k m (suc d) e =
       let z : k + suc d ≡ suc (k + d) = omega arith in
-      ap (auditedTo img n hashes) z ∙ ap (λ (a : Answer (Unit {0})). andThen a (bucketAudit img n (getD hashes (k + d) 0) (k + d))) (audited-stop k m d e)
+      ap (auditedTo img n hashes) z ∙ ap (λ (a : Answer (Unit {0})). andThen a (λ _. bucketAudit img n (getD hashes (k + d) 0) (k + d))) (audited-stop k m d e)
 
   -- where no label is doubled
   audited-paths : (k : ℕ) → ((b : ℕ) → b < k → doubled img n b ≡ false) → auditedTo img n hashes k ≡ pathsTo img n hashes k
   unfolding auditedTo pathsTo
   audited-paths zero f = refl
   audited-paths (suc k) f =
-      ap₂ (λ (a : Answer (Unit {0})) (t : Bool). andThen a (cond t (refused 21) (pathAudit img n (getD hashes k 0) k))) (audited-paths k (λ b h. f b (omega arith))) (f k (omega arith))
+      ap₂ (λ (a : Answer (Unit {0})) (t : Bool). andThen a (λ _. cond t (refused 21) (pathAudit img n (getD hashes k 0) k))) (audited-paths k (λ b h. f b (omega arith))) (f k (omega arith))
 
-  audited-next : (k : ℕ) → doubled img n k ≡ true → auditedTo img n hashes (k + 1) ≡ andThen (auditedTo img n hashes k) (refused 21)
+  audited-next : (k : ℕ) → doubled img n k ≡ true → auditedTo img n hashes (k + 1) ≡ andThen (auditedTo img n hashes k) (λ _. refused 21)
   unfolding auditedTo
-  audited-next k e = ap (auditedTo img n hashes) (add-one k) ∙ ap (λ (t : Bool). andThen (auditedTo img n hashes k) (cond t (refused 21) (pathAudit img n (getD hashes k 0) k))) e
+  audited-next k e = ap (auditedTo img n hashes) (add-one k) ∙ ap (λ (t : Bool). andThen (auditedTo img n hashes k) (λ _. cond t (refused 21) (pathAudit img n (getD hashes k 0) k))) e
 
   module _ (first : ℕ) (d : FirstDoubled img n first) where
     -- a bucket before it is refused
@@ -72,7 +73,7 @@ module _ (img : List ℕ) (n : ℕ) (hashes : List ℕ) where
         let z : first + 1 + (n - (first + 1)) ≡ n = omega arith in
         ap (auditedTo img n hashes) (sym z)
         ∙ audited-stop (first + 1) 21 (n - (first + 1))
-        (audited-next first (d .there l) ∙ ap (λ (a : Answer (Unit {0})). andThen a (refused 21)) (audited-paths first (d .none) ∙ e))
+        (audited-next first (d .there l) ∙ ap (λ (a : Answer (Unit {0})). andThen a (λ _. refused 21)) (audited-paths first (d .none) ∙ e))
 
     -- none is
     pub audited-passed : n ≤ first → pathsTo img n hashes first ≡ given tt → auditedTo img n hashes n ≡ given tt
@@ -82,9 +83,11 @@ module _ (img : List ℕ) (n : ℕ) (hashes : List ℕ) where
 
 -- ---- the whole audit, test by test
 module _ (img : List ℕ) (n : ℕ) (hashes : List ℕ) where
-  pub audit-unfit : imageFits n (length img) ≡ false → auditAnswer img n hashes ≡ refused 1
+  pub audit-unfit : (m : ℕ) → ifTable {A = Unit {0}} (imageFits n (length img)) (given tt) ≡ refused m → refused m ≡ auditAnswer img n hashes
   unfolding auditAnswer
-  audit-unfit e = rw e
+  audit-unfit m e =
+      table-unfit (imageFits n (length img)) m
+      (cond (eqb (length hashes) n) (cond (paddingEmpty (tagsOf n img) n) (andThen (auditedTo img n hashes n) (λ _. given (auditOf img n))) (refused 20)) (refused 2)) e
 
   module _ (fits : imageFits n (length img) ≡ true) where
     pub audit-hashes : (length hashes ≡ n → ⊥) → auditAnswer img n hashes ≡ refused 2
@@ -96,7 +99,7 @@ module _ (img : List ℕ) (n : ℕ) (hashes : List ℕ) where
       unfolding auditAnswer
       audit-padding e = rw (fits, eq-eqb (length hashes) n each, e)
 
-      pub audit-buckets : paddingEmpty (tagsOf n img) n ≡ true → auditAnswer img n hashes ≡ andThen (auditedTo img n hashes n) (given (auditOf img n))
+      pub audit-buckets : paddingEmpty (tagsOf n img) n ≡ true → auditAnswer img n hashes ≡ andThen (auditedTo img n hashes n) (λ _. given (auditOf img n))
       unfolding auditAnswer
       audit-buckets e = rw (fits, eq-eqb (length hashes) n each, e)
 

@@ -10,11 +10,11 @@ use lib.Dec.{eqb}
 use lib.ListN.{getD, replicate}
 use lib.Ieee.{binary64}
 use lib.Ieee as Ieee
-use Rattle.answers.specs.Answers.{Answer, given, refused}
+use Rattle.answers.specs.Answers.{Answer, given, refused, andThen}
 use Rattle.answers.specs.declared.Refusal.the-variants.{PaddingUsed, LabelTwice, TagWrong, EmptyFirst, NotReached}
-use Rattle.meta_map.specs.Tags.{fullTag, countOf, allZero}
+use Rattle.meta_map.specs.Tags.{fullTag, countOf, allZero, isFull}
 use Rattle.probe.specs.Path.{visit}
-use Rattle.validate.specs.Audit.{isFull, labelled, doubled, reaching, auditVisits, stopsReach, pathAudit, bucketAudit, andThen, auditedTo, rateOf, auditOf, auditAnswer, auditedSaid}
+use Rattle.validate.specs.Audit.{labelled, doubled, reaching, auditVisits, stopsReach, pathAudit, bucketAudit, auditedTo, rateOf, auditOf, auditAnswer, auditedSaid}
 use Rattle.validate.specs.declared.Audit.{Audit}
 use Rattle.validate.specs.declared.Audited.the-variants as audited
 use Rattle.validate.proofs.Audits.{audit-buckets}
@@ -47,7 +47,7 @@ bucket-by img n h b d f t =
 
 next-audited : (img : List ℕ) (n : ℕ) (hashes : List ℕ) (k : ℕ) (x : Answer (Unit {0})) → auditedTo img n hashes k ≡ given tt → bucketAudit img n (getD hashes k 0) k ≡ x → auditedTo img n hashes (suc k) ≡ x
 unfolding auditedTo
-next-audited img n hashes k x e f = ap₂ (λ (a b : Answer (Unit {0})). andThen a b) e f
+next-audited img n hashes k x e f = ap₂ (λ (a b : Answer (Unit {0})). andThen a (λ _. b)) e f
 
 none-audited : (img : List ℕ) (n : ℕ) (hashes : List ℕ) → auditedTo img n hashes 0 ≡ given tt
 unfolding auditedTo
@@ -67,20 +67,20 @@ half-full : auditAnswer (two 0x80 0x00) 2 (0 ∷ 0 ∷ []) ≡ given (audit 2 1 
 unfolding labelled allZero countOf rateOf Ieee.div Ieee.ofInt Ieee.ofBits
 half-full =
     audit-buckets (two 0x80 0x00) 2 (0 ∷ 0 ∷ []) refl refl refl
-    ∙ ap (λ (a : Answer (Unit {0})). andThen a (given (auditOf (two 0x80 0x00) 2))) (both-audited (two 0x80 0x00) (0 ∷ 0 ∷ []) (given tt) (first-passes 0x00) refl)
+    ∙ ap (λ (a : Answer (Unit {0})). andThen a (λ _. given (auditOf (two 0x80 0x00) 2))) (both-audited (two 0x80 0x00) (0 ∷ 0 ∷ []) (given tt) (first-passes 0x00) refl)
 
 label-twice : auditAnswer (two 0x80 0x80) 2 (0 ∷ 1 ∷ []) ≡ refused 21
 unfolding labelled allZero
 label-twice =
     audit-buckets (two 0x80 0x80) 2 (0 ∷ 1 ∷ []) refl refl refl
-    ∙ ap (λ (a : Answer (Unit {0})). andThen a (given (auditOf (two 0x80 0x80) 2))) (both-audited (two 0x80 0x80) (0 ∷ 1 ∷ []) (refused 21) (first-passes 0x80) refl)
+    ∙ ap (λ (a : Answer (Unit {0})). andThen a (λ _. given (auditOf (two 0x80 0x80) 2))) (both-audited (two 0x80 0x80) (0 ∷ 1 ∷ []) (refused 21) (first-passes 0x80) refl)
 
 -- bucket 1 of two, whose path begins at the empty bucket 0
 empty-first : auditAnswer (two 0x00 0x80) 2 (0 ∷ 0 ∷ []) ≡ refused 23
 unfolding visit labelled allZero
 empty-first =
     audit-buckets (two 0x00 0x80) 2 (0 ∷ 0 ∷ []) refl refl refl
-    ∙ ap (λ (a : Answer (Unit {0})). andThen a (given (auditOf (two 0x00 0x80) 2)))
+    ∙ ap (λ (a : Answer (Unit {0})). andThen a (λ _. given (auditOf (two 0x00 0x80) 2)))
     (both-audited (two 0x00 0x80) (0 ∷ 0 ∷ []) (refused 23) refl
     (bucket-by (two 0x00 0x80) 2 0 1 refl refl refl
     ∙ empty-at (two 0x00 0x80) 2 0 1 (omega arith) 0 (omega arith) (λ j x y. absurd (omega arith)) (λ e. let z : _≡_ {A = ℕ} 0 1 = e in omega arith) refl))
@@ -92,7 +92,7 @@ not-reached =
     let img = three 0x7F 0x7F 0x80 in
     let hs : List ℕ = 0 ∷ 0 ∷ 0 ∷ [] in
     audit-buckets img 3 hs refl refl refl
-    ∙ ap (λ (a : Answer (Unit {0})). andThen a (given (auditOf img 3)))
+    ∙ ap (λ (a : Answer (Unit {0})). andThen a (λ _. given (auditOf img 3)))
     (next-audited img 3 hs 2 (refused 24)
     (next-audited img 3 hs 1 (given tt) (next-audited img 3 hs 0 (given tt) (none-audited img 3 hs) refl) refl)
     (bucket-by img 3 0 2 refl refl refl ∙ never-at img 3 0 2 (omega arith) passed))

@@ -1,6 +1,6 @@
 -- Filters: a cell that is set stays set, and a key that was added is there. Assumes nothing.
 use mathlib.Core.Path.{_≡_, refl, sym, ap, ap₂, _∙_}
-use mathlib.Core.Bool.{Bool, true, false, cond, _&&_, _||_}
+use mathlib.Core.Bool.{Bool, true, false, _&&_, _||_}
 use mathlib.Core.List.{List}
 use Prim.Native.Nat.{ℕ, _+_, _*_, _/_, _%_, _^_, _≤_, _<_}
 use native.Mathlib.Decide.{ℕ-discrete}
@@ -11,9 +11,9 @@ use lib.ListN.{length, getD, set, length-set}
 use lib.Seq.{getD-set-same, getD-set-other}
 use borrow.Author.Tests.{eq-eqb}
 use Rattle.ht_file.proofs.Laws.{both-hold}
-use Rattle.page_diff.specs.Diff.{digit, marked}
+use Rattle.page_diff.specs.Diff.{marked}
 use Rattle.page_diff.proofs.MarkLaws.{bit, bit-set}
-use Rattle.validate.specs.Filter.{cellA, cellB, cellC, withCell, withKey, hasKey}
+use Rattle.validate.specs.InnerFilter.{cellA, cellB, cellC, withCell, withKey, hasKey}
 
 pub cell-long : (f : List ℕ) (i : ℕ) → length (withCell f i) ≡ length f
 cell-long f i = length-set f (i / 64) (bitOr (getD f (i / 64) 0) (1 * 2 ^ (i % 64) % 2 ^ 64))

@@ -1,6 +1,6 @@
 -- Labels: where one stands in an image, its words, and the search for it among earlier buckets. Assumes nothing.
-use mathlib.Core.Path.{_≡_, refl, sym, ap, ap₂, _∙_, subst}
-use mathlib.Core.Bool.{Bool, true, false, true≢false, cond, _&&_, _||_}
+use mathlib.Core.Path.{_≡_, refl, sym, ap, ap₂, _∙_}
+use mathlib.Core.Bool.{Bool, true, false, true≢false, _&&_, _||_}
 use mathlib.Core.List.{List}
 use Prim.Native.Nat.{ℕ, zero, suc, _+_, _*_, _≤_, _<_}
 use native.Mathlib.Decide.{ℕ-discrete}
@@ -10,16 +10,21 @@ use lib.ListN.{length, getD, take, drop, length-drop}
 use lib.Seq.{getD-take, getD-drop, length-take-le, ext-getD}
 use Rattle.blocks.specs.Blocks.{le, block}
 use Rattle.blocks.proofs.Laws.{block-length, block-getD}
-use Rattle.ht_file.specs.Places.{imageLength, pageStart}
-use Rattle.ht_file.proofs.Laws.{both-hold}
+use Rattle.ht_file.specs.Places.{imageLength, pageStart, startIn}
+use Rattle.ht_file.proofs.Laws.{both-hold, start-is}
 use Rattle.probe.specs.Path.{sameBytes, pageEnd}
 use Rattle.probe.proofs.Bytes.{same-equal, equal-same}
-use Rattle.validate.specs.Audit.{isFull, labelled, doubled}
-use Rattle.validate.specs.Filter.{mixed, keyOf}
+use Rattle.meta_map.specs.Tags.{isFull}
+use Rattle.validate.specs.Audit.{labelled, doubled}
+use Rattle.validate.specs.InnerFilter.{mixed, keyOf}
 
 -- a bucket's label stands within the image
 pub label-within : (n b len : ℕ) → len ≡ imageLength n → b < n → pageStart n b + 4064 + 32 ≤ len
 label-within n b len e l = omega arith
+
+-- and where the code reads it
+pub end-read : (img : List ℕ) (n b x : ℕ) → n ≤ 1048576 → b ≤ n → x ≡ startIn n b → take 32 (drop (x + 4064) img) ≡ pageEnd img n b
+end-read img n b x l m e = ap (λ (y : ℕ). take 32 (drop (y + 4064) img)) (e ∙ start-is n b l m)
 
 -- a word of a label is one of the image
 pub word-of : (img : List ℕ) (a o : ℕ) → a + 32 ≤ length img → o + 8 ≤ 32 → block 8 img (a + o) ≡ block 8 (take 32 (drop a img)) o

@@ -1,6 +1,5 @@
 -- A promise names one answer only: each case of the code's answers is told by what it says. Assumes nothing.
 use mathlib.Core.Path.{_≡_, sym, ap}
-use Rattle.answers.specs.Answers.{Answer, given, refused}
 use Rattle.answers.specs.Refusals.{numberOf}
 use Rattle.answers.proofs.Laws.{refusal-one, given-refused, refused-one, given-one}
 use Rattle.validate.specs.Audit.{auditedSaid}

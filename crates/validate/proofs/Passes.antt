@@ -1,7 +1,7 @@
 -- The two passes over a class: what each keeps true from bucket to bucket, and that together they find the first doubled label. A label that
 -- an earlier one equals has its key, so its cells are set when it comes. Assumes nothing.
-use mathlib.Core.Path.{_≡_, refl, sym, ap, ap₂, _∙_, subst}
-use mathlib.Core.Bool.{Bool, true, false, true≢false, cond, _&&_}
+use mathlib.Core.Path.{_≡_, refl, sym, ap, ap₂, _∙_}
+use mathlib.Core.Bool.{Bool, true, false, true≢false, _&&_}
 use mathlib.Core.List.{List}
 use Prim.Native.Nat.{ℕ, _+_, _-_, _/_, _%_, _≤_, _<_}
 use native.Mathlib.Decide.{ℕ-discrete}
@@ -10,12 +10,13 @@ use native.Mathlib.Omega.{arith}
 use lib.Dec.{eqb}
 use lib.ListN.{length, getD, set, length-set}
 use lib.Seq.{getD-set-same, getD-set-other}
-use borrow.Author.Tests.{eq-eqb, eqb-true}
+use borrow.Author.Tests.{eq-eqb}
 use Rattle.ht_file.proofs.Laws.{both-hold}
-use Rattle.probe.specs.Path.{pageEnd}
-use Rattle.validate.specs.Audit.{isFull, labelled, doubled, FirstDoubled}
-use Rattle.validate.specs.Filter.{keyOf, keyAt, classOf, withKey, hasKey, ofClass, bucketOfClass, KeysOf, Keeps, Noted, Suspected, Marking, Sought, Seeking, FirstOfClass}
-use Rattle.validate.proofs.Labels.{Earlier, doubled-told}
+use Rattle.meta_map.specs.Tags.{isFull}
+use Rattle.validate.specs.Audit.{doubled}
+use Rattle.validate.specs.InnerAudit.{FirstDoubled}
+use Rattle.validate.specs.InnerFilter.{keyOf, keyAt, classOf, withKey, hasKey, ofClass, bucketOfClass, KeysOf, Keeps, Noted, Suspected, Marking, Sought, Seeking, FirstOfClass}
+use Rattle.validate.proofs.Labels.{doubled-told}
 use Rattle.validate.proofs.Filters.{key-long, key-stays, key-added}
 
 pub keeps-self : (f : List ℕ) → length f ≡ 16384 → Keeps f f

@@ -2,24 +2,24 @@
 use mathlib.Core.Path.{_≡_, refl, sym, ap, ap₂, _∙_, subst}
 use mathlib.Core.Bool.{Bool, true, false, true≢false, cond, _&&_}
 use mathlib.Core.List.{List}
-use mathlib.Core.Logic.{_⊎_, inl, inr}
+use mathlib.Core.Logic.{_⊎_}
 use Prim.Native.Nat.{ℕ, zero, suc, _+_, _*_, _≤_, _<_}
 use native.Mathlib.Decide.{ℕ-discrete, decLt}
 use native.Mathlib.Omega.{arith}
 use lib.Dec.{eqb}
 use lib.ListN.{length, getD}
 use borrow.Author.Tests.{eqb-true}
-use Rattle.answers.specs.Answers.{Answer, given, refused}
+use Rattle.answers.specs.Answers.{Answer, given, refused, andThen}
 use Rattle.answers.proofs.Laws.{given-one, given-refused}
-use Rattle.ht_file.specs.Places.{imageFits}
+use Rattle.ht_file.specs.Places.{imageFits, tagsOf}
 use Rattle.ht_file.proofs.Laws.{image-fits-facts}
-use Rattle.meta_map.specs.Tags.{full, isKind, kindOf, fullTag, countOf, paddingEmpty}
+use Rattle.meta_map.specs.Tags.{full, isKind, fullTag, countOf, paddingEmpty, isFull}
 use Rattle.meta_map.proofs.Laws.{full-tag-kind}
 use Rattle.probe.specs.Path.{visit, pageEnd, foundAt, lookupAnswer}
 use Rattle.probe.proofs.Visits.{visit-below}
 use Rattle.probe.proofs.Promises.{HasPage, found-by}
 use Rattle.validate.specs.declared.Audit.{Audit}
-use Rattle.validate.specs.Audit.{isFull, tagsOf, labelled, doubled, reaching, pathAudit, bucketAudit, andThen, auditedTo, rateOf, auditOf, auditAnswer}
+use Rattle.validate.specs.Audit.{doubled, reaching, bucketAudit, auditedTo, rateOf, auditOf, auditAnswer}
 use Rattle.validate.proofs.Labels.{labelled-by}
 use Rattle.validate.proofs.Reaches.{reached-told}
 
@@ -48,7 +48,7 @@ unfolding auditedTo
 all-passed img n hashes zero e b l = absurd (omega arith)
 all-passed img n hashes (suc k) e b l = go (auditedTo img n hashes k) refl e (all-passed img n hashes k) (ℕ-discrete b k)
   where
-    go : (a : Answer (Unit {0})) → auditedTo img n hashes k ≡ a → andThen a (bucketAudit img n (getD hashes k 0) k) ≡ given tt
+    go : (a : Answer (Unit {0})) → auditedTo img n hashes k ≡ a → andThen a (λ _. bucketAudit img n (getD hashes k 0) k) ≡ given tt
         → (auditedTo img n hashes k ≡ given tt → (i : ℕ) → i < k → bucketAudit img n (getD hashes i 0) i ≡ given tt) → Dec (b ≡ k) → bucketAudit img n (getD hashes b 0) b ≡ given tt
     go (given tt) p q rec (yes z) = ap (λ (i : ℕ). bucketAudit img n (getD hashes i 0) i) z ∙ q
     go (given tt) p q rec (no z) = rec p b (omega arith)
@@ -68,7 +68,7 @@ module _ (img : List ℕ) (n : ℕ) (hashes : List ℕ) (a : Audit) (passed : au
   audit-passes = go (imageFits n (length img)) refl (eqb (length hashes) n) refl (paddingEmpty (tagsOf n img) n) refl (auditedTo img n hashes n) refl passed
     where
       go : (f : Bool) → imageFits n (length img) ≡ f → (h : Bool) → eqb (length hashes) n ≡ h → (p : Bool) → paddingEmpty (tagsOf n img) n ≡ p → (x : Answer (Unit {0})) → auditedTo img n hashes n ≡ x
-          → cond f (cond h (cond p (andThen x (given (auditOf img n))) (refused 20)) (refused 2)) (refused 1) ≡ given a → Passes
+          → cond f (cond h (cond p (andThen x (λ _. given (auditOf img n))) (refused 20)) (refused 2)) (refused 1) ≡ given a → Passes
       go false q h r p s x t e = absurd (given-refused a 1 (sym e))
       go true q false r p s x t e = absurd (given-refused a 2 (sym e))
       go true q true r false s x t e = absurd (given-refused a 20 (sym e))

@@ -1,5 +1,5 @@
 -- The path to a bucket: what n visits show of all of them, and what it means that a bucket is reached. Assumes nothing.
-use mathlib.Core.Path.{_≡_, refl, sym, ap, ap₂, _∙_, subst}
+use mathlib.Core.Path.{_≡_, refl, sym, ap, ap₂, _∙_}
 use mathlib.Core.Bool.{Bool, true, false, true≢false, cond, _||_}
 use mathlib.Core.List.{List}
 use Prim.Native.Nat.{ℕ, _+_, _-_, _*_, _%_, _≤_, _<_}
@@ -7,13 +7,13 @@ use native.Mathlib.Nat.{mod-eq-of-lt, mod-eq-sub-mod, mod-lt, mod-le}
 use native.Mathlib.Decide.{decLt}
 use native.Mathlib.Omega.{arith}
 use lib.Dec.{leb, eqb}
-use lib.ListN.{length, getD}
-use borrow.Author.Tests.{eq-eqb, ne-eqb, eqb-true, leb-true, leb-false}
-use Rattle.answers.specs.Answers.{Answer, given, refused}
+use lib.ListN.{getD}
+use borrow.Author.Tests.{eq-eqb, ne-eqb, eqb-true, leb-false}
+use Rattle.answers.specs.Answers.{given, refused}
 use Rattle.probe.specs.Path.{visit, visits, Stop, stopAt, nowhere, firstStop, isEmpty}
 use Rattle.probe.proofs.Tests.{empty-is, empty-not}
 use Rattle.probe.proofs.Visits.{visit-below, visit-next, path-turns, path-mirror}
-use Rattle.probe.proofs.Walk.{Passed, Stopped, passed-more, stop-here, stop-never, stop-told}
+use Rattle.probe.proofs.Walk.{Passed, Stopped, stop-here, stop-never, stop-told}
 use Rattle.validate.specs.Audit.{auditVisits, stopsReach, reachSaw, reaching}
 
 -- at least two rounds are made

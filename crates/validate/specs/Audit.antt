@@ -1,28 +1,20 @@
 -- 01, 'Audit': what an audit of a table image answers. Assumes nothing.
-use mathlib.Core.Path.{_≡_}
-use mathlib.Core.Bool.{Bool, true, false, cond, _&&_, _||_}
+use mathlib.Core.Bool.{Bool, false, cond, _&&_, _||_}
 use mathlib.Core.List.{List}
 use Prim.Native.Nat.{ℕ, zero, suc, _+_, _*_, _≤_, _<_}
 use lib.Dec.{leb, eqb}
-use lib.ListN.{length, getD, take}
+use lib.ListN.{length, getD}
 use lib.IntN.{pos}
 use lib.Ieee as Ieee
 use lib.Ieee.{Float, binary64}
-use Rattle.answers.specs.Answers.{Answer, given, refused}
+use Rattle.answers.specs.Answers.{Answer, given, refused, andThen}
 use Rattle.answers.specs.Refusals.{numberOf}
-use Rattle.ht_file.specs.Places.{tagsLength, imageFits}
-use Rattle.meta_map.specs.Tags.{full, kindOf, isKind, fullTag, countOf, allZero, paddingEmpty}
+use Rattle.ht_file.specs.Places.{tagsOf, ifImage}
+use Rattle.meta_map.specs.Tags.{full, isFull, fullTag, countOf, allZero, paddingEmpty}
 use Rattle.probe.specs.Path.{visit, visits, Stop, stopAt, nowhere, firstStop, isEmpty, sameBytes, pageEnd}
 use Rattle.validate.specs.declared.Audit.{Audit}
 use Rattle.validate.specs.declared.Audited.{Audited}
 use Rattle.validate.specs.declared.Audited.the-variants as audited
-
-abbrev pub isFull : ℕ → Bool
-isFull t = isKind full (kindOf t)
-
--- the tag pages of an image
-abbrev pub tagsOf : ℕ → List ℕ → List ℕ
-tagsOf n img = take (tagsLength n) img
 
 -- a full bucket before k has the label l: a search among them
 unfoldable pub labelled : List ℕ → ℕ → List ℕ → ℕ → Bool
@@ -57,14 +49,10 @@ pathAudit img n h b = cond (isFull (getD img b 0)) (cond (eqb (getD img b 0) (fu
 abbrev pub bucketAudit : List ℕ → ℕ → ℕ → ℕ → Answer (Unit {0})
 bucketAudit img n h b = cond (doubled img n b) (refused 21) (pathAudit img n h b)
 
-abbrev pub andThen : {A : Type 0} → Answer (Unit {0}) → Answer A → Answer A
-andThen (given tt) x = x
-andThen (refused m) x = refused m
-
 unfoldable pub auditedTo : List ℕ → ℕ → List ℕ → ℕ → Answer (Unit {0})
 unfolding labelled reaching
 auditedTo img n hashes zero = given tt
-auditedTo img n hashes (suc b) = andThen (auditedTo img n hashes b) (bucketAudit img n (getD hashes b 0) b)
+auditedTo img n hashes (suc b) = andThen (auditedTo img n hashes b) (λ _. bucketAudit img n (getD hashes b 0) b)
 
 -- "capacity, occupied and their rate, occupied over capacity as one f64 division"; "occupied [..] the number of full tags"
 unfoldable pub rateOf : ℕ → ℕ → Float
@@ -77,23 +65,11 @@ auditOf img n = record { capacity = n; occupied = countOf full img n; rate = rat
 unfoldable pub auditAnswer : List ℕ → ℕ → List ℕ → Answer Audit
 unfolding auditedTo countOf rateOf allZero
 auditAnswer img n hashes =
-    cond (imageFits n (length img))
+    ifImage img n
     (cond (eqb (length hashes) n)
-    (cond (paddingEmpty (tagsOf n img) n) (andThen (auditedTo img n hashes n) (given (auditOf img n))) (refused 20))
+    (cond (paddingEmpty (tagsOf n img) n) (andThen (auditedTo img n hashes n) (λ _. given (auditOf img n))) (refused 20))
     (refused 2))
-    (refused 1)
 
 abbrev pub auditedSaid : Audited → Answer Audit
 auditedSaid (audited.Passed a) = given a
 auditedSaid (audited.Refused r) = refused (numberOf r)
-
--- ---- the two halves of the code's audit: the first doubled label, and the tags and paths of the buckets before it
-pub record FirstDoubled (img : List ℕ) (n r : ℕ) : Type 0 where
-  pub within : r ≤ n
-  pub none : (b : ℕ) → b < r → doubled img n b ≡ false
-  pub there : r < n → doubled img n r ≡ true
-
-unfoldable pub pathsTo : List ℕ → ℕ → List ℕ → ℕ → Answer (Unit {0})
-unfolding reaching
-pathsTo img n hashes zero = given tt
-pathsTo img n hashes (suc b) = andThen (pathsTo img n hashes b) (pathAudit img n (getD hashes b 0) b)

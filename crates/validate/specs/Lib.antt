@@ -1,2 +1,3 @@
 pub mod Audit
-pub mod Filter
+pub mod InnerAudit
+pub mod InnerFilter

@@ -3,21 +3,20 @@
 ghost use mathlib.Core.Path.{_≡_};
 ghost use mathlib.Core.Bool.{true};
 ghost use Prim.Native.Nat.{_+_, _≤_, _<_};
-ghost use lib.ListN.{length, getD, take, drop, replicate};
+ghost use lib.ListN.{length};
 ghost use Rattle.answers.specs.Answers.{outcomeSaid};
 ghost use Rattle.ht_file.specs.Places.{imageFits};
 ghost use Rattle.page_diff.specs.Diff.{marked};
-ghost use Rattle.probe.specs.Path.{sameBytes, pageEnd};
-ghost use Rattle.validate.specs.Audit.{auditAnswer, auditedSaid, doubled, labelled, reaching, pathAudit, pathsTo, rateOf, FirstDoubled};
-ghost use Rattle.validate.specs.Filter.{spread, folded, mixed, keyAt, withCell, withKey, hasKey, KeysOf, Noted, Marking, Suspected, Sought, Seeking, SoughtTo, FirstOfClass};
+ghost use Rattle.probe.specs.Path.{pageEnd};
+ghost use Rattle.validate.specs.Audit.{auditAnswer, auditedSaid, doubled, labelled, reaching, pathAudit, rateOf};
+ghost use Rattle.validate.specs.InnerAudit.{pathsTo, FirstDoubled};
+ghost use Rattle.validate.specs.InnerFilter.{spread, folded, mixed, keyAt, withCell, withKey, hasKey, KeysOf, Noted, Marking, Suspected, Sought, Seeking, SoughtTo, FirstOfClass};
 use answers::Number;
 use answers::Outcome;
 use answers::Refusal;
 use answers::Truth;
-use ht_file::PAGE_SIZE;
+use ht_file::ID_AT;
 use meta_map::EMPTY;
-
-const LABEL_SIZE: usize = 32;
 
 const FILTER_WORDS: usize = 16384;
 
@@ -111,33 +110,16 @@ fn check_buckets(image: &[u8], n: usize, hashes: &[u64], end: usize) -> Outcome
 
 // ---- the search for a label, made only where the filters do not rule it out
 
-// Whether the labels at two places are the same. All bytes are looked at, which is the faster way.
-fn same_label(image: &[u8], a: usize, b: usize) -> bool
-    requires { ⌜ (a + 32 ≤ length (now image)) × (b + 32 ≤ length (now image)) ⌝ }
-    ensures { λ r. ⌜ r ≡ sameBytes (take 32 (drop a (now (image .entry)))) (take 32 (drop b (now (image .entry)))) ⌝ }
-{
-    let mut same = true;
-    let mut i = 0;
-    while i < LABEL_SIZE {
-        if image[a + i] != image[b + i] {
-            same = false;
-        }
-        i += 1;
-    }
-    same
-}
-
 // Whether a full bucket before b has b's label.
 fn search_label(image: &[u8], n: usize, b: usize) -> bool
     requires { ⌜ (imageFits n (length (now image)) ≡ true) × (b < n) ⌝ }
     ensures { λ r. ⌜ r ≡ labelled (now (image .entry)) n (pageEnd (now (image .entry)) n b) b ⌝ }
 {
-    let pages = (n + 4095) / PAGE_SIZE;
-    let at = PAGE_SIZE * (pages + b) + 4064;
+    let label = blocks::block_32(image, ht_file::page_start(n, b) + ID_AT);
     let mut j = 0;
     while j < b {
         if meta_map::is_full(image[j]) {
-            if same_label(image, PAGE_SIZE * (pages + j) + 4064, at) {
+            if probe::ends_in(image, ht_file::page_start(n, j) + ID_AT, label) {
                 return true;
             }
         }
@@ -186,7 +168,7 @@ fn label_key(image: &[u8], n: usize, b: usize) -> u64
     requires { ⌜ (imageFits n (length (now image)) ≡ true) × (b < n) ⌝ }
     ensures { λ r. ⌜ r ≡ keyAt (now (image .entry)) n b ⌝ }
 {
-    let at = PAGE_SIZE * ((n + 4095) / PAGE_SIZE + b) + 4064;
+    let at = ht_file::page_start(n, b) + ID_AT;
     let w0 = blocks::read_u64(image, at);
     let w1 = blocks::read_u64(image, at + 8);
     let w2 = blocks::read_u64(image, at + 16);
@@ -524,33 +506,34 @@ fn first_doubled(image: &[u8], n: usize, full: u64) -> usize
 pub fn validate_hashtable(image: &[u8], n: usize, hashes: &[u64]) -> Audited
     ensures { λ r. ⌜ auditedSaid r ≡ auditAnswer (now (image .entry)) n (now (hashes .entry)) ⌝ }
 {
-    if ht_file::image_fits(n, image.len()) {
-        if hashes.len() != n {
-            return Audited::Refused(Refusal::LengthUnfit);
-        }
-        let tags = PAGE_SIZE * ((n + 4095) / PAGE_SIZE);
-        let padding = meta_map::padding_is_empty(&image[..tags], n);
-        let Truth::Holds = padding else {
-            return Audited::Refused(Refusal::PaddingUsed);
-        };
-        let counted = meta_map::full_count(&image[..tags], n);
-        let Number::Is(occupied) = counted else {
-            return Audited::Refused(Refusal::TableUnfit);
-        };
-        let first = first_doubled(image, n, occupied);
-        let checked = check_buckets(image, n, hashes, first);
-        if let Outcome::Refused(why) = checked {
-            return Audited::Refused(why);
-        }
-        if first < n {
-            return Audited::Refused(Refusal::LabelTwice);
-        }
-        let rate = occupancy_rate(occupied, n);
-        return Audited::Passed(Audit {
-            capacity: n as u64,
-            occupied,
-            rate,
-        });
+    let fit = ht_file::check_image(n, image.len());
+    if let Outcome::Refused(why) = fit {
+        return Audited::Refused(why);
     }
-    Audited::Refused(Refusal::TableUnfit)
+    if hashes.len() != n {
+        return Audited::Refused(Refusal::LengthUnfit);
+    }
+    let tags = ht_file::page_start(n, 0);
+    let padding = meta_map::padding_is_empty(&image[..tags], n);
+    let Truth::Holds = padding else {
+        return Audited::Refused(Refusal::PaddingUsed);
+    };
+    let counted = meta_map::full_count(&image[..tags], n);
+    let Number::Is(occupied) = counted else {
+        return Audited::Refused(Refusal::TableUnfit);
+    };
+    let first = first_doubled(image, n, occupied);
+    let checked = check_buckets(image, n, hashes, first);
+    if let Outcome::Refused(why) = checked {
+        return Audited::Refused(why);
+    }
+    if first < n {
+        return Audited::Refused(Refusal::LabelTwice);
+    }
+    let rate = occupancy_rate(occupied, n);
+    Audited::Passed(Audit {
+        capacity: n as u64,
+        occupied,
+        rate,
+    })
 }

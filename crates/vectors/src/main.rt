@@ -525,7 +525,7 @@ fn of_allocated(r: probe::Allocated, after: u64) -> Words {
 }
 
 fn allocated(t: &mut [u8], n: usize, hash: u64) -> Words {
-    let r = probe::allocate_bucket(t, n, hash);
+    let r = probe::allocate_bucket(t, n, hash, probe::hit_limit());
     of_allocated(r, blocks::read_u64(t, 0))
 }
 
@@ -548,7 +548,7 @@ fn asked(op: u64, t: &[u8], n: usize, x: u64, y: u64) -> Words {
         26 => of_number(meta_map::full_count(t, n)),
         27 => of_truth(meta_map::padding_is_empty(t, n)),
         28 => of_probed(probe::probe_from(t, n, x, y)),
-        30 => of_allocated(probe::find_bucket(t, n, x), 0),
+        30 => of_allocated(probe::find_bucket(t, n, x, probe::hit_limit()), 0),
         _ => of_found(probe::lookup(t, n, x, id_of(low_byte(y)))),
     }
 }
@@ -651,7 +651,7 @@ fn tags_weighed(t: &[u8], n: usize) -> u64 {
 }
 
 fn allocated_code(t: &mut [u8], n: usize, hash: u64) -> u64 {
-    let r = of_allocated(probe::allocate_bucket(t, n, hash), 0);
+    let r = of_allocated(probe::allocate_bucket(t, n, hash, probe::hit_limit()), 0);
     let weight = tags_weighed(t, n) % 100000 * 1024;
     if r.a == 0 {
         return r.b % 1024 + weight;

@@ -10,8 +10,10 @@ use lib.ListN.{length, getD, drop, drop-of-length-le}
 use lib.Seq.{drop-cons}
 use borrow.Author.Needs.{needs}
 use borrow.Author.Tests.{eq-eqb, ne-eqb}
+use Rattle.answers.specs.Answers.{given, outcomeSaid}
+use Rattle.answers.specs.Refusals.{numberOf}
 use Rattle.ht_file.specs.Places.{tagsFit}
-use Rattle.ht_file.proofs.Laws.{tags-fit-facts}
+use Rattle.ht_file.proofs.Laws.{tags-fit-facts, table-fits, table-unfit}
 use Rattle.meta_map.specs.Tags.{allZero, paddingEmpty}
 use Rattle.meta_map.proofs.padding_is_empty.Statement.{statement}
 use Rattle.meta_map.proofs.padding_is_empty.Tie as tie
@@ -31,26 +33,43 @@ none-left : (ts : List ℕ) (i : ℕ) → length ts ≤ i → allZero (drop i ts
 unfolding allZero
 none-left ts i l = rw (drop-of-length-le ts l)
 
-tags-fit-requires : tie.Need-tags-fit-requires Inv-loop μ-loop
-tags-fit-requires c κs = search needs
+-- once the table is seen to fit
+fits : (c : tie.After-enum-told Inv-loop μ-loop) → tagsFit (c .before .before .before .before .args .n) (length (c .before .before .before .before .args .tags .now)) ≡ true
+fits c =
+    let call = c .before .before in
+    table-fits (tagsFit (call .before .before .args .n) (length (call .before .before .args .tags .now))) (sym (call .check-tags .ensures) ∙ ap outcomeSaid (c .enum-told .given .1))
 
-loop-holds : tie.Need-loop-holds Inv-loop μ-loop
-loop-holds c =
-    let a = c .before .before .before .args in
-    let fits : tagsFit (a .n) (length (a .tags .now)) ≡ true = sym (c .before .tags-fit .ensures) ∙ c .if1 .taken in
-    let f = tags-fit-facts (a .n) (length (a .tags .now)) fits in
-    (omega arith, omega arith, refl)
+check-tags-requires : tie.Need-check-tags-requires Inv-loop μ-loop
+check-tags-requires c κs = search needs
 
-shared-slice-read-if2 : tie.Need-shared-slice-read-if2 Inv-loop μ-loop
-shared-slice-read-if2 c = search needs
+enum-known-fit : tie.Need-enum-known-fit Inv-loop μ-loop
+enum-known-fit c = search needs
+
+enum-told : tie.Need-enum-told Inv-loop μ-loop
+enum-told c = search needs
 
 returns : tie.Need-returns Inv-loop μ-loop
 returns c =
+    let call = c .before .before .before in
+    let a = call .before .before .args in
+    table-unfit (tagsFit (a .n) (length (a .tags .now))) (numberOf (c .before .fit .given .0 .0)) (given (paddingEmpty (a .tags .now) (a .n)))
+    (sym (call .check-tags .ensures) ∙ ap outcomeSaid (c .before .fit .given .1))
+
+loop-holds : tie.Need-loop-holds Inv-loop μ-loop
+loop-holds c =
+    let a = c .before .before .before .before .args in
+    let f = tags-fit-facts (a .n) (length (a .tags .now)) (fits c) in
+    (omega arith, omega arith, refl)
+
+shared-slice-read-if1 : tie.Need-shared-slice-read-if1 Inv-loop μ-loop
+shared-slice-read-if1 c = search needs
+
+returns-2 : tie.Need-returns-2 Inv-loop μ-loop
+returns-2 c =
     let at-loop = c .before .before .before in
-    let a = at-loop .before .before .before .before .args in
-    let fits : tagsFit (a .n) (length (a .tags .now)) ≡ true = sym (at-loop .before .before .tags-fit .ensures) ∙ at-loop .before .if1 .taken in
+    let ts : List ℕ = at-loop .before .before .before .before .before .args .tags .now in
     let i : ℕ = at-loop .loop .i in
-    simp (fits, at-loop .loop .inv .2, one-more (a .tags .now) i (c .before .before .loop-test .taken), ne-eqb (getD (a .tags .now) i 0) 0 (c .if2 .taken))
+    simp (fits (at-loop .before), at-loop .loop .inv .2, one-more ts i (c .before .before .loop-test .taken), ne-eqb (getD ts i 0) 0 (c .if1 .taken))
 
 add-i : tie.Need-add-i Inv-loop μ-loop
 add-i c = search needs
@@ -61,20 +80,14 @@ loop-less c = search needs
 loop-again : tie.Need-loop-again Inv-loop μ-loop
 loop-again c =
     let at-loop = c .before .before .before in
-    let ts : List ℕ = at-loop .before .before .before .before .args .tags .now in
+    let ts : List ℕ = at-loop .before .before .before .before .before .args .tags .now in
     let i : ℕ = at-loop .loop .i in
-    (omega arith, omega arith, at-loop .loop .inv .2 ∙ one-more ts i (c .before .before .loop-test .taken) ∙ ap (λ (b : Bool). b && allZero (drop (i + 1) ts)) (eq-eqb (getD ts i 0) 0 (c .if2 .left)))
-
-returns-2 : tie.Need-returns-2 Inv-loop μ-loop
-returns-2 c =
-    let a = c .before .before .before .before .before .args in
-    let fits : tagsFit (a .n) (length (a .tags .now)) ≡ true = sym (c .before .before .before .tags-fit .ensures) ∙ c .before .before .if1 .taken in
-    simp (fits, c .before .loop .inv .2, none-left (a .tags .now) (c .before .loop .i) (c .loop-test .left))
+    (omega arith, omega arith, at-loop .loop .inv .2 ∙ one-more ts i (c .before .before .loop-test .taken) ∙ ap (λ (b : Bool). b && allZero (drop (i + 1) ts)) (eq-eqb (getD ts i 0) 0 (c .if1 .left)))
 
 returns-3 : tie.Need-returns-3 Inv-loop μ-loop
 returns-3 c =
-    let a = c .before .before .before .args in
-    let unfit : tagsFit (a .n) (length (a .tags .now)) ≡ false = sym (c .before .tags-fit .ensures) ∙ c .if1 .left in simp unfit
+    let told = c .before .before in
+    simp (fits told, c .before .loop .inv .2, none-left (told .before .before .before .before .args .tags .now) (c .before .loop .i) (c .loop-test .left))
 
 pub padding-is-empty-spec : {M : Type 1} → statement M
 padding-is-empty-spec =
@@ -82,12 +95,14 @@ padding-is-empty-spec =
     (tie.spec
     Inv-loop
     μ-loop
-    tags-fit-requires
-    loop-holds
-    shared-slice-read-if2
+    check-tags-requires
+    enum-known-fit
     returns
+    enum-told
+    loop-holds
+    shared-slice-read-if1
+    returns-2
     add-i
     loop-less
     loop-again
-    returns-2
     returns-3)

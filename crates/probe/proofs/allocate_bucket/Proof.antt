@@ -5,14 +5,14 @@ use native.Mathlib.Omega.{arith}
 use lib.ListN.{set}
 use borrow.Author.Needs.{needs}
 use Rattle.answers.specs.Answers.{Answer, given}
-use Rattle.probe.specs.Path.{hitLimit, allocateAnswer, tagsAfter, allocatedSaid}
+use Rattle.probe.specs.Path.{allocateAnswer, tagsAfter, allocatedSaid}
 use Rattle.probe.proofs.Allocating.{answer-below}
 use Rattle.probe.proofs.allocate_bucket.Statement.{statement}
 use Rattle.probe.proofs.allocate_bucket.Tie as tie
 
 -- what was found, as the definition says it
 found : (c : tie.After-r)
-    → allocateAnswer hitLimit (c .before .before .before .before .before .args .tags .now) (c .before .before .before .before .before .args .n) (c .before .before .before .before .before .args .hash)
+    → allocateAnswer (c .before .before .before .before .before .args .limit) (c .before .before .before .before .before .args .tags .now) (c .before .before .before .before .before .args .n) (c .before .before .before .before .before .args .hash)
     ≡ given (c .r .given .0 .0)
 found c = sym (c .before .before .find-bucket .ensures) ∙ ap allocatedSaid (c .r .given .1)
 
@@ -28,7 +28,7 @@ full-entry-requires c κs = search needs
 slice-write-tags : tie.Need-slice-write-tags
 slice-write-tags c =
     let a = c .before .before .before .before .before .before .before .args in
-    omega (arith, answer-below hitLimit (a .tags .now) (a .n) (a .hash) (c .before .before .r .given .0 .0) (found (c .before .before)))
+    omega (arith, answer-below (a .limit) (a .tags .now) (a .n) (a .hash) (c .before .before .r .given .0 .0) (found (c .before .before)))
 
 enum-known-r-2 : tie.Need-enum-known-r-2
 enum-known-r-2 c = search needs

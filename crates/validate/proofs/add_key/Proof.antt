@@ -2,8 +2,7 @@
 use mathlib.Core.Path.{_≡_, ap, _∙_}
 use mathlib.Core.List.{List}
 use Prim.Native.Nat.{ℕ}
-use Rattle.validate.specs.Filter.{cellA, cellB, cellC, withCell, withKey}
-use Rattle.validate.proofs.Filters.{cell-long}
+use Rattle.validate.specs.InnerFilter.{cellB, cellC, withCell, withKey}
 use borrow.Author.Needs.{needs}
 use Rattle.validate.proofs.add_key.Statement.{statement}
 use Rattle.validate.proofs.add_key.Tie as tie

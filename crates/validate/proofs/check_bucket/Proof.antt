@@ -1,13 +1,12 @@
 -- By the tests in their order. Assumes nothing.
-use mathlib.Core.Path.{_≡_, refl, sym, ap, ap₂, _∙_, subst}
-use mathlib.Core.Bool.{Bool, true, false, cond, not, _&&_, _||_}
+use mathlib.Core.Path.{_≡_, sym, _∙_}
+use mathlib.Core.Bool.{true, false, _&&_, _||_}
 use native.Mathlib.Omega.{arith}
 use lib.ListN.{length, getD}
 use Rattle.ht_file.proofs.Laws.{image-fits-facts}
 use borrow.Author.Tests.{not-true, not-false}
 use lib.Dec.{eqb}
-use Rattle.meta_map.specs.Tags.{fullTag}
-use Rattle.validate.specs.Audit.{isFull, reaching, pathAudit}
+use Rattle.meta_map.specs.Tags.{fullTag, isFull}
 use borrow.Author.Needs.{needs}
 use Rattle.validate.proofs.check_bucket.Statement.{statement}
 use Rattle.validate.proofs.check_bucket.Tie as tie

@@ -1,13 +1,14 @@
 -- At the head of the loop the buckets so far pass; a refusal stays. Assumes nothing.
-use mathlib.Core.Path.{_≡_, refl, sym, ap, ap₂, _∙_, subst}
+use mathlib.Core.Path.{_≡_, sym, ap, _∙_}
 use Prim.Native.Nat.{ℕ, _+_, _-_, _*_, _/_, _%_, _≤_, _<_}
 use native.Mathlib.Omega.{arith}
 use lib.ListN.{length, getD}
 use borrow.Author.Needs.{needs}
 use Rattle.ht_file.proofs.Laws.{image-fits-facts}
-use Rattle.answers.specs.Answers.{Answer, given, refused, outcomeSaid}
+use Rattle.answers.specs.Answers.{given, refused, outcomeSaid}
 use Rattle.answers.specs.Refusals.{numberOf}
-use Rattle.validate.specs.Audit.{pathAudit, pathsTo}
+use Rattle.validate.specs.Audit.{pathAudit}
+use Rattle.validate.specs.InnerAudit.{pathsTo}
 use Rattle.validate.proofs.Audits.{paths-none, paths-next, paths-stop}
 use Rattle.validate.proofs.check_buckets.Statement.{statement}
 use Rattle.validate.proofs.check_buckets.Tie as tie

@@ -1,18 +1,15 @@
 -- The walk passes visits that are neither the bucket nor empty; after n of them, all have been passed. Assumes nothing.
-use mathlib.Core.Path.{_≡_, refl, sym, ap, _∙_, subst}
-use mathlib.Core.Bool.{Bool, true, false}
-use mathlib.Core.List.{List}
+use mathlib.Core.Path.{_≡_, sym, ap, _∙_, subst}
 use Prim.Native.Nat.{ℕ, _+_, _-_, _*_, _%_, _≤_, _<_}
 use native.Mathlib.Nat.{add-zero}
 use native.Mathlib.Omega.{arith}
 use lib.ListN.{length, getD}
-use borrow.Author.Needs.{needs}
 use Rattle.ht_file.specs.Places.{imageLength}
 use Rattle.ht_file.proofs.Laws.{image-fits-facts}
 use Rattle.probe.specs.Path.{visit}
 use Rattle.probe.proofs.Visits.{visit-below}
 use Rattle.probe.proofs.Walk.{Passed, passed-none, passed-more}
-use Rattle.validate.specs.Audit.{stopsReach, reaching}
+use Rattle.validate.specs.Audit.{stopsReach}
 use Rattle.validate.proofs.Reaches.{on-below, on-round, passes, reached-at, empty-at, never-at}
 use Rattle.validate.proofs.ensure_bucket_reachable.Statement.{statement}
 use Rattle.validate.proofs.ensure_bucket_reachable.Tie as tie

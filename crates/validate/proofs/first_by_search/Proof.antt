@@ -1,11 +1,11 @@
 -- At the head of the loop no bucket so far is doubled. Assumes nothing.
-use mathlib.Core.Path.{_≡_, refl, sym, ap, ap₂, _∙_, subst}
+use mathlib.Core.Path.{_≡_, sym, _∙_}
 use Prim.Native.Nat.{ℕ, _+_, _-_, _≤_, _<_}
 use native.Mathlib.Omega.{arith}
-use lib.ListN.{length, getD}
+use lib.ListN.{length}
 use borrow.Author.Count.{below-more}
 use Rattle.ht_file.proofs.Laws.{image-fits-facts}
-use mathlib.Core.Bool.{true, false}
+use mathlib.Core.Bool.{false}
 use Rattle.validate.specs.Audit.{doubled}
 use Rattle.validate.proofs.first_by_search.Statement.{statement}
 use Rattle.validate.proofs.first_by_search.Tie as tie

@@ -1,10 +1,9 @@
 -- At the head of the loop the pass is at bucket b, and has found none. Assumes nothing.
-use mathlib.Core.Path.{_≡_, refl, sym, ap, _∙_, subst}
+use mathlib.Core.Path.{_≡_, sym, _∙_}
 use Prim.Native.Nat.{ℕ, _+_, _-_, _≤_, _<_}
 use native.Mathlib.Omega.{arith}
-use mathlib.Core.Bool.{Bool, true, false}
-use mathlib.Core.List.{List}
-use Rattle.validate.specs.Filter.{Suspected, Seeking, SoughtTo, FirstOfClass}
+use mathlib.Core.Bool.{true}
+use Rattle.validate.specs.InnerFilter.{Seeking}
 use Rattle.validate.proofs.Passes.{seek-start, suspected-less}
 use Rattle.validate.proofs.first_found.Statement.{statement}
 use Rattle.validate.proofs.first_found.Tie as tie

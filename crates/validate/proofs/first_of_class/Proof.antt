@@ -1,7 +1,6 @@
 -- Where there are suspects the second pass answers; where there is none, nothing is doubled. Assumes nothing.
 use mathlib.Core.Path.{_≡_, _∙_, subst}
-use mathlib.Core.Bool.{true, false}
-use Rattle.validate.specs.Filter.{Suspected}
+use Rattle.validate.specs.InnerFilter.{Suspected}
 use Rattle.validate.proofs.Passes.{none-suspected}
 use borrow.Author.Needs.{needs}
 use Rattle.validate.proofs.first_of_class.Statement.{statement}

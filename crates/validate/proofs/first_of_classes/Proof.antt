@@ -1,12 +1,8 @@
 -- At the head of the loop no bucket before the answer so far, of a class so far, is doubled. Assumes nothing.
-use mathlib.Core.Path.{_≡_, refl, sym, ap, _∙_, subst}
-use mathlib.Core.Bool.{Bool, true, false}
-use mathlib.Core.List.{List}
+use mathlib.Core.Path.{_≡_, sym, _∙_}
 use Prim.Native.Nat.{ℕ, _+_, _-_, _≤_, _<_}
 use native.Mathlib.Omega.{arith}
 use lib.ListN.{length}
-use borrow.Author.Needs.{needs}
-use Rattle.ht_file.proofs.Laws.{image-fits-facts}
 use Rattle.validate.proofs.Passes.{Classing, class-start, class-turn, class-end}
 use Rattle.validate.proofs.first_of_classes.Statement.{statement}
 use Rattle.validate.proofs.first_of_classes.Tie as tie

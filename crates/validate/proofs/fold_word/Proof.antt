@@ -1,6 +1,6 @@
 -- As it is defined. Assumes nothing.
 use mathlib.Core.Path.{refl}
-use Rattle.validate.specs.Filter.{folded}
+use Rattle.validate.specs.InnerFilter.{folded}
 use Rattle.validate.proofs.fold_word.Statement.{statement}
 use Rattle.validate.proofs.fold_word.Tie as tie
 

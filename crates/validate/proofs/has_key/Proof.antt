@@ -2,7 +2,7 @@
 use mathlib.Core.Path.{_≡_, sym, ap, ap₂, _∙_}
 use mathlib.Core.Bool.{Bool, true, false, _&&_}
 use Rattle.page_diff.specs.Diff.{marked}
-use Rattle.validate.specs.Filter.{cellA, cellB, cellC, hasKey}
+use Rattle.validate.specs.InnerFilter.{cellA, cellB, cellC, hasKey}
 use borrow.Author.Needs.{needs}
 use Rattle.validate.proofs.has_key.Statement.{statement}
 use Rattle.validate.proofs.has_key.Tie as tie

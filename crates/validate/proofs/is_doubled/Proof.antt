@@ -1,11 +1,12 @@
 -- By the test of the tag. Assumes nothing.
-use mathlib.Core.Path.{_≡_, refl, sym, ap, ap₂, _∙_, subst}
+use mathlib.Core.Path.{_≡_, sym, ap, _∙_}
 use mathlib.Core.Bool.{Bool, true, false, true≢false, _&&_}
 use native.Mathlib.Omega.{arith}
 use lib.ListN.{length, getD}
 use Rattle.ht_file.proofs.Laws.{image-fits-facts}
 use Rattle.probe.specs.Path.{pageEnd}
-use Rattle.validate.specs.Audit.{isFull, labelled}
+use Rattle.meta_map.specs.Tags.{isFull}
+use Rattle.validate.specs.Audit.{labelled}
 use borrow.Author.Needs.{needs}
 use Rattle.validate.proofs.is_doubled.Statement.{statement}
 use Rattle.validate.proofs.is_doubled.Tie as tie

@@ -1,14 +1,11 @@
 -- At the head of the loop the keys so far are those of the labels. Assumes nothing.
-use mathlib.Core.Path.{_≡_, refl, sym, ap, ap₂, _∙_, subst}
-use mathlib.Core.Bool.{true, false}
-use mathlib.Core.List.{List}
+use mathlib.Core.Path.{_≡_, refl, sym, ap, _∙_, subst}
 use Prim.Native.Nat.{ℕ, _+_, _-_, _≤_, _<_}
 use native.Mathlib.Omega.{arith}
 use lib.ListN.{length, set}
-use borrow.Author.Needs.{needs}
 use mathlib.Core.Logic.{⊎-elim}
 use Rattle.ht_file.proofs.Laws.{image-fits-facts}
-use Rattle.validate.specs.Filter.{KeysOf}
+use Rattle.validate.specs.InnerFilter.{KeysOf}
 use Rattle.validate.proofs.Passes.{keys-more, keys-skip}
 use Rattle.validate.proofs.label_keys.Statement.{statement}
 use Rattle.validate.proofs.label_keys.Tie as tie

@@ -1,14 +1,12 @@
 -- At the head of the loop the pass is at bucket b, whose key was read before. Assumes nothing.
-use mathlib.Core.Path.{_≡_, refl, sym, ap, ap₂, _∙_, subst}
-use mathlib.Core.Bool.{Bool, true, false, true≢false}
-use mathlib.Core.List.{List}
+use mathlib.Core.Path.{_≡_, sym, _∙_, subst}
+use mathlib.Core.Bool.{true, false, true≢false}
 use Prim.Native.Nat.{ℕ, _+_, _-_, _≤_, _<_}
 use native.Mathlib.Omega.{arith}
 use lib.ListN.{length, getD}
 use mathlib.Core.Logic.{⊎-elim}
 use Rattle.ht_file.proofs.Laws.{image-fits-facts}
-use Rattle.validate.specs.Audit.{isFull}
-use Rattle.validate.specs.Filter.{keyAt, Marking}
+use Rattle.validate.specs.InnerFilter.{Marking}
 use Rattle.validate.proofs.Passes.{mark-turn}
 use Rattle.validate.proofs.mark_block.Statement.{statement}
 use Rattle.validate.proofs.mark_block.Tie as tie

@@ -1,8 +1,8 @@
 -- At the head of the loop the pass is at bucket b. Assumes nothing.
-use mathlib.Core.Path.{_≡_, refl, sym, ap, _∙_, subst}
+use mathlib.Core.Path.{_≡_, sym, _∙_, subst}
 use Prim.Native.Nat.{ℕ, _+_, _-_, _≤_, _<_}
 use native.Mathlib.Omega.{arith}
-use Rattle.validate.specs.Filter.{Marking}
+use Rattle.validate.specs.InnerFilter.{Marking}
 use Rattle.validate.proofs.Passes.{mark-start}
 use Rattle.validate.proofs.mark_suspects.Statement.{statement}
 use Rattle.validate.proofs.mark_suspects.Tie as tie

@@ -2,7 +2,7 @@
 use mathlib.Core.Path.{_≡_, ap, ap₂, _∙_}
 use Prim.Native.Nat.{ℕ}
 use lib.Bits.{bitXor}
-use Rattle.validate.specs.Filter.{spread, folded, mixed}
+use Rattle.validate.specs.InnerFilter.{spread, folded, mixed}
 use borrow.Author.Needs.{needs}
 use Rattle.validate.proofs.mix_words.Statement.{statement}
 use Rattle.validate.proofs.mix_words.Tie as tie

@@ -1,14 +1,13 @@
 -- At the head of the loop the pass is at bucket b, whose key was read before. Assumes nothing.
-use mathlib.Core.Path.{_≡_, refl, sym, ap, ap₂, _∙_, subst}
-use mathlib.Core.Bool.{Bool, true, false, true≢false}
-use mathlib.Core.List.{List}
+use mathlib.Core.Path.{_≡_, sym, _∙_, subst}
+use mathlib.Core.Bool.{true, false, true≢false}
 use Prim.Native.Nat.{ℕ, _+_, _-_, _≤_, _<_}
 use native.Mathlib.Omega.{arith}
 use lib.ListN.{length, getD}
 use mathlib.Core.Logic.{⊎-elim}
 use Rattle.ht_file.proofs.Laws.{image-fits-facts}
-use Rattle.validate.specs.Audit.{isFull, doubled}
-use Rattle.validate.specs.Filter.{keyAt, Sought, Seeking}
+use Rattle.validate.specs.Audit.{doubled}
+use Rattle.validate.specs.InnerFilter.{Seeking}
 use Rattle.validate.proofs.Passes.{seek-turn}
 use Rattle.validate.proofs.seek_block.Statement.{statement}
 use Rattle.validate.proofs.seek_block.Tie as tie

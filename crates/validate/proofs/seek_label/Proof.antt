@@ -1,12 +1,12 @@
 -- By the tests in their order: the label comes again, is new, is no suspect, or is not of the class. Assumes nothing.
-use mathlib.Core.Path.{_≡_, refl, sym, ap, ap₂, _∙_, subst}
+use mathlib.Core.Path.{_≡_, sym, ap, ap₂, _∙_, subst}
 use mathlib.Core.Bool.{Bool, true, false, true≢false, _&&_}
 use mathlib.Core.List.{List}
 use Prim.Native.Nat.{ℕ, _+_, _-_, _≤_, _<_}
 use lib.Dec.{eqb}
 use borrow.Author.Tests.{ne-eqb}
-use Rattle.validate.specs.Audit.{isFull}
-use Rattle.validate.specs.Filter.{classOf, withKey, hasKey, Sought}
+use Rattle.meta_map.specs.Tags.{isFull}
+use Rattle.validate.specs.InnerFilter.{classOf, Sought}
 use Rattle.validate.proofs.Passes.{sought-again, sought-new, sought-clear, sought-other}
 use borrow.Author.Needs.{needs}
 use Rattle.validate.proofs.seek_label.Statement.{statement}

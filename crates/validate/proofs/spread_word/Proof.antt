@@ -3,7 +3,7 @@ use mathlib.Core.Path.{refl}
 use Prim.Native.Nat.{ℕ, _*_, _/_, _%_, _≤_, _<_}
 use native.Mathlib.Nat.{mul-le-mul}
 use native.Mathlib.Omega.{arith}
-use Rattle.validate.specs.Filter.{spread}
+use Rattle.validate.specs.InnerFilter.{spread}
 use Rattle.validate.proofs.spread_word.Statement.{statement}
 use Rattle.validate.proofs.spread_word.Tie as tie
 

@@ -29,7 +29,7 @@ rem-t13 : tie.Need-rem-t13
 rem-t13 c = search needs
 
 returns : tie.Need-returns
-returns c = (refl, refl, (visit-from (c .args .n) (c .args .hash) (c .args .k), refl))
+returns c = (refl, (visit-from (c .args .n) (c .args .hash) (c .args .k), refl))
 
 pub new-spec : {M : Type 1} → statement M
 new-spec = tie.close (tie.spec rem-home add-t7 mul-t8 add-t10 rem-t11 add-t12 rem-t13 returns)

@@ -7,9 +7,10 @@ use lib.Dec.{eqb}
 use lib.ListN.{length, getD, set}
 use lib.Bits.{bitOr, bitXor}
 use Rattle.blocks.specs.Blocks.{le, block}
+use Rattle.meta_map.specs.Tags.{isFull}
 use Rattle.page_diff.specs.Diff.{marked}
 use Rattle.probe.specs.Path.{pageEnd}
-use Rattle.validate.specs.Audit.{isFull, doubled}
+use Rattle.validate.specs.Audit.{doubled}
 
 -- the two halves of a word, each times a number
 unfoldable pub spread : ℕ → ℕ → ℕ → ℕ
