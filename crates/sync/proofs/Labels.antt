@@ -200,7 +200,7 @@ pub replay-labelled : (n : ℕ) (table log : List ℕ) (sync : ℕ) (hashes : Li
 unfolding insideAll
 replay-labelled n table log sync hashes ok before after id ws ns el b h split away id-long el-long =
     let s : Step = record { entry = update id ws ns el b; hash = h } in
-    let told = applied-told n table log sync hashes ok in
+    let told = applied-told n (length table) log sync (length hashes) ok in
     let long : length table ≡ imageLength n = image-fits-facts n (length table) (told .0) .2 in
     let all-in : insideAll n (s ∷ after) ≡ true =
     inside-from n before (s ∷ after) (ap (insideAll n) (sym split) ∙ steps-inside n (readLog log .entries) hashes (check-inside n log (length hashes) (told .1))) in
