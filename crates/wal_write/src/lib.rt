@@ -19,13 +19,7 @@ use answers::Refusal;
 use page_diff::Diff;
 use wal::Writer;
 
-// Where the diff of an update stands, counted from its mark.
-const DIFF_AT: usize = 33;
-
-// Where its nodes stand.
-const NODES_AT: usize = 49;
-
-// The bytes after its nodes.
+// The bytes of an update after its nodes.
 const TAIL_SIZE: usize = 16;
 
 // What a call answers, and the state after it.
@@ -81,7 +75,7 @@ pub fn begin(log: &mut [u8], w: Writer, sync: u32) -> Written
         return kept(w, Refusal::NoRoom);
     }
     log[0] = wal::WAL_ENTRY_TAG_START;
-    blocks::write_u32(log, 1, sync);
+    blocks::write_u32(log, wal::MARK_SIZE, sync);
     Written {
         outcome: Outcome::Done,
         writer: Writer::Open(wal::START_SIZE),
@@ -94,7 +88,7 @@ fn put_clear(log: &mut [u8], at: usize, bucket: u64)
     ensures { λ _. ⌜ now (log .exit) ≡ put (now (log .entry)) at (recordOf (clear bucket)) ⌝ }
 {
     log[at] = wal::WAL_ENTRY_TAG_CLEAR;
-    blocks::write_u64(log, at + 1, bucket);
+    blocks::write_u64(log, at + wal::MARK_SIZE, bucket);
 }
 
 // Writes a clear of any bucket number: 12, 13.
@@ -119,9 +113,10 @@ fn put_head(log: &mut [u8], at: usize, id: [u8; 32], d: Diff)
     requires { ⌜ at + 49 ≤ length (now log) ⌝ }
     ensures { λ _. ⌜ (now (log .exit) ≡ put (now (log .entry)) at (mark 4 ++ (id ++ bytesOfWords (d .words)))) × (length id ≡ 32) ⌝ }
 {
+    let body = at + wal::MARK_SIZE;
     log[at] = wal::WAL_ENTRY_TAG_UPDATE;
-    blocks::put_32(log, at + 1, id);
-    blocks::put_16(log, at + DIFF_AT, page_diff::as_bytes(d));
+    blocks::put_32(log, body, id);
+    blocks::put_16(log, body + wal::DIFF_AT, page_diff::as_bytes(d));
 }
 
 // The first `held` nodes of a table.
@@ -190,8 +185,9 @@ pub fn write_lent_update(
     if !room_at(log.len(), at, size) {
         return kept(w, Refusal::NoRoom);
     }
+    let body = at + wal::MARK_SIZE;
     put_head(log, at, id, d);
-    put_nodes(log, at + NODES_AT, nodes, held);
+    put_nodes(log, body + wal::NODES_AT, nodes, held);
     put_tail(log, at + (size - TAIL_SIZE), elided, bucket);
     Written {
         outcome: Outcome::Done,
@@ -224,8 +220,9 @@ pub fn write_page_update(
     if !room_at(log.len(), at, size) {
         return kept(w, Refusal::NoRoom);
     }
+    let body = at + wal::MARK_SIZE;
     put_head(log, at, id, d);
-    page_diff::put_page_nodes(log, at + NODES_AT, d, page);
+    page_diff::put_page_nodes(log, body + wal::NODES_AT, d, page);
     put_tail(
         log,
         at + (size - TAIL_SIZE),

@@ -9,11 +9,11 @@ use Rattle.wal_write.proofs.Bytes.{put-head}
 use Rattle.wal_write.proofs.put_head.Statement.{statement}
 use Rattle.wal_write.proofs.put_head.Tie as tie
 
+add-body : tie.Need-add-body
+add-body c = search needs
+
 slice-write-log : tie.Need-slice-write-log
 slice-write-log c = search needs
-
-add-put-32 : tie.Need-add-put-32
-add-put-32 c = search needs
 
 put-32-requires : tie.Need-put-32-requires
 put-32-requires c κs = search needs
@@ -38,7 +38,7 @@ returns c =
     let start = first .before .before .before in
     let args = start .args in (
       last .put-16 .ensures .0
-          ∙ ap₂ (λ (l bs : List ℕ). put l (args .at + 33) bs) (first .put-32 .ensures .0) (bytes .as-bytes .ensures)
+          ∙ ap₂ (λ (l bs : List ℕ). put l (args .at + 1 + 32) bs) (first .put-32 .ensures .0) (bytes .as-bytes .ensures)
           ∙ put-head (args .log .now) (args .at) (args .id) (args .d .words) (first .put-32 .ensures .1) (start .pre),
       first .put-32 .ensures .1,
     )
@@ -47,8 +47,8 @@ pub put-head-spec : {M : Type 1} → statement M
 put-head-spec =
     tie.close
     (tie.spec
+    add-body
     slice-write-log
-    add-put-32
     put-32-requires
     add-put-16
     as-bytes-requires

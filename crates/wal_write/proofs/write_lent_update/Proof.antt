@@ -168,6 +168,9 @@ returns-4 c =
     (update-tests (log s) (w s) (ws s) (held s)
     ∙ no-room (log s) (w s) (eqb (held s) (countOf (ws s))) (reserved (ws s)) (65 + 32 * held s) (given tt) (at k) (opened k) (fit (past .before .before)) (plain past) (sym (asked .room-at .ensures) ∙ not-true (asked .room-at .result) (c .before .if3 .taken))) (c .kept4 .ensures .0) (c .kept4 .ensures .1 ∙ sym (opened k))
 
+add-body : tie.Need-add-body
+add-body c = omega (arith, fits c)
+
 put-head-requires : tie.Need-put-head-requires
 put-head-requires c κs = omega (arith, fits (c .before))
 
@@ -192,8 +195,8 @@ put-tail-requires c κs =
     let head = nodes .before .before .before .before in
     omega (arith, fits (head .before .before), head .put-head .kept .0, nodes .put-nodes .kept .0)
 
-add-t12 : tie.Need-add-t12
-add-t12 c = omega (arith, fits (c .before .before .before .before .before .before .before .before .before .before .before .before))
+add-t13 : tie.Need-add-t13
+add-t13 c = omega (arith, fits (c .before .before .before .before .before .before .before .before .before .before .before .before))
 
 same-length : tie.Need-same-length
 same-length c = search needs
@@ -212,7 +215,7 @@ returns-5 c =
     (update-tests (log s) (w s) (ws s) (held s)
     ∙ taken (log s) (w s) (eqb (held s) (countOf (ws s))) (reserved (ws s)) (65 + 32 * held s) (given tt) (at k) (opened k) (fit (past .before .before .before .before)) (plain (past .before .before)) (roomy past)) refl
     (tail .put-tail .ensures .0
-    ∙ ap (λ (l : List ℕ). put l (at k + (65 + 32 * held s - 16)) end) (nodes .put-nodes .ensures .0 ∙ ap (λ (l : List ℕ). put l (at k + 49) (flat ns)) (head .put-head .ensures .0))
+    ∙ ap (λ (l : List ℕ). put l (at k + (65 + 32 * held s - 16)) end) (nodes .put-nodes .ensures .0 ∙ ap (λ (l : List ℕ). put l (at k + 1 + 48) (flat ns)) (head .put-head .ensures .0))
     ∙ put-update (log s) (at k) (s .args .id) (ws s) ns (s .args .elided) (s .args .bucket) (held s) (head .put-head .ensures .1) (nodes .put-nodes .ensures .1) (tail .put-tail .ensures .1) (fits past)) in
     (left .0, left .1, wide s, λ ok. nodes .put-nodes .ensures .2)
 
@@ -234,12 +237,13 @@ write-lent-update-spec =
     room-at-requires
     kept-requires-4
     returns-4
+    add-body
     put-head-requires
     add-put-nodes
     put-nodes-requires
     sub-put-tail
     add-put-tail
     put-tail-requires
-    add-t12
+    add-t13
     same-length
     returns-5)

@@ -175,6 +175,9 @@ returns-4 c =
     (page-tests (log s) (w s) (ws s) (page s)
     ∙ no-room (log s) (w s) (eqb (length (page s)) 4096) (reserved (ws s)) (65 + 32 * countOf (ws s)) (given tt) (at k) (opened k) (fit (past .before .before)) (plain past) (sym (room asked) ∙ not-true (asked .room-at .result) (c .before .if3 .taken))) (c .kept4 .ensures .0) (c .kept4 .ensures .1 ∙ sym (opened k))
 
+add-body : tie.Need-add-body
+add-body c = omega (arith, fits c)
+
 put-head-requires : tie.Need-put-head-requires
 put-head-requires c κs = omega (arith, fits (c .before))
 
@@ -200,8 +203,8 @@ put-tail-requires c κs =
     let past = head .before .before in
     omega (arith, fits past, counted past, head .put-head .kept .0, nodes .put-page-nodes .kept .0)
 
-add-t15 : tie.Need-add-t15
-add-t15 c = let past = c .before .before .before .before .before .before .before .before .before .before .before .before .before in omega (arith, fits past, counted past)
+add-t16 : tie.Need-add-t16
+add-t16 c = let past = c .before .before .before .before .before .before .before .before .before .before .before .before .before in omega (arith, fits past, counted past)
 
 same-length : tie.Need-same-length
 same-length c = search needs
@@ -225,7 +228,7 @@ returns-5 c =
     (tail .put-tail .ensures .0
     ∙ ap (λ (m : ℕ). put (nodes .put-page-nodes .last .0) (at k + (65 + 32 * m - 16)) (read .block-8 .result ++ bytesOf 8 (s .args .bucket))) (counted past)
     ∙ ap (λ (e : List ℕ). put (nodes .put-page-nodes .last .0) (at k + (65 + 32 * n - 16)) (e ++ bytesOf 8 (s .args .bucket))) (read .block-8 .ensures)
-    ∙ ap (λ (l : List ℕ). put l (at k + (65 + 32 * n - 16)) (el ++ bytesOf 8 (s .args .bucket))) (nodes .put-page-nodes .ensures ∙ nodes-plain (head .put-head .last .0) (at k + 49) (ws s) (page s) (plain (past .before .before .before)) ∙ ap (λ (l : List ℕ). put l (at k + 49) (flat ns)) (head .put-head .ensures .0))
+    ∙ ap (λ (l : List ℕ). put l (at k + (65 + 32 * n - 16)) (el ++ bytesOf 8 (s .args .bucket))) (nodes .put-page-nodes .ensures ∙ nodes-plain (head .put-head .last .0) (at k + 1 + 48) (ws s) (page s) (plain (past .before .before .before)) ∙ ap (λ (l : List ℕ). put l (at k + 1 + 48) (flat ns)) (head .put-head .ensures .0))
     ∙ put-update (log s) (at k) (s .args .id) (ws s) ns el (s .args .bucket) n (head .put-head .ensures .1) (page-nodes-length (page s) (slots (ws s))) (block-length 8 (page s) 4056) (fits past)) in
     (left .0, left .1, wide s)
 
@@ -247,6 +250,7 @@ write-page-update-spec =
     room-at-requires
     kept-requires-4
     returns-4
+    add-body
     put-head-requires
     add-put-page-nodes
     put-page-nodes-requires
@@ -254,6 +258,6 @@ write-page-update-spec =
     add-put-tail
     block-8-requires
     put-tail-requires
-    add-t15
+    add-t16
     same-length
     returns-5)
