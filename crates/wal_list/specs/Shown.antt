@@ -26,11 +26,6 @@ started (refused n) = last (refusedLine 0 n)
 unfoldable pub firstShown : List ℕ → Shown
 firstShown log = cond (leb (length log) most) (cond (eqb (length log) 0) (last (ascii "empty\n")) (started (startOf log))) (last (refusedLine 0 2))
 
--- the number of a refused answer
-abbrev pub refusalOf : Answer ℕ → ℕ
-refusalOf (given n) = 0
-refusalOf (refused n) = n
-
 -- a later line: "A refusal prints the offset of the unreadable record, `refused`, number, and stops"
 abbrev pub nextShown : Next → ℕ → Shown
 nextShown (next e p) at = more (entryLine at e) p

@@ -14,7 +14,8 @@ use Rattle.page_diff.specs.declared.Packed.{Packed}
 use Rattle.wal.specs.Log.{clear}
 use Rattle.wal.specs.Reader.{Next, next, ended, stopped, nodesFrom, diffAt, updateOf, nextAt}
 use Rattle.wal_read.specs.Head.{headSaid}
-use Rattle.wal_read.specs.Entry.{updates, whatSaid, rows, Taken, Bare}
+use Rattle.wal_read.specs.Entry.{updates, whatSaid, rows, Taken}
+use Rattle.wal_read.specs.InnerEntry.{Bare}
 use Rattle.wal_read.specs.declared.Head.{Head}
 use Rattle.wal_read.specs.declared.Head.the-variants as head
 use Rattle.wal_read.specs.declared.What.{What}

@@ -77,12 +77,3 @@ pub record Taken (n : Next) (at : ℕ) (e : WalEntry) : Type 0 where
   pub packed-is : e .packed ≡ packedOf n
   pub elided-is : e .elided ≡ elidedOf n
   pub next-is : e .next ≡ nextOf n at
-
--- an entry that is no update: what it is and where it goes on, with no field of an update
-pub record Bare (w : What) (p : ℕ) (e : WalEntry) : Type 0 where
-  pub what-is : e .what ≡ w
-  pub id-is : e .id ≡ replicate 32 0
-  pub diff-is : e .diff .words ≡ 0 ∷ 0 ∷ []
-  pub packed-is : e .packed ≡ packedBy (replicate 126 (replicate 32 0)) 0
-  pub elided-is : e .elided ≡ replicate 8 0
-  pub next-is : e .next ≡ p

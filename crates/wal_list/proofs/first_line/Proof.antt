@@ -6,7 +6,8 @@ use Rattle.answers.specs.Answers.{refused, given, numberSaid}
 use Rattle.answers.specs.Refusals.{numberOf}
 use Rattle.wal.specs.Reader.{startOf}
 use Rattle.wal_list.specs.Lines.{ascii, startLine, refusedLine}
-use Rattle.wal_list.specs.Shown.{started, firstShown, refusalOf}
+use Rattle.wal_list.specs.Shown.{started, firstShown}
+use Rattle.wal_list.specs.InnerShown.{refusalOf}
 use Rattle.wal_list.proofs.ShownLaws.{first-long, first-none, first-start, filled-last, filled-more}
 use borrow.Author.Needs.{needs}
 use Rattle.wal_list.proofs.first_line.Statement.{statement}

@@ -2,7 +2,7 @@
 use mathlib.Core.Path.{sym, ap, _∙_}
 use Rattle.answers.specs.Answers.{numberSaid}
 use Rattle.answers.specs.declared.Number.{Number}
-use Rattle.wal_list.specs.Shown.{refusalOf}
+use Rattle.wal_list.specs.InnerShown.{refusalOf}
 use borrow.Author.Needs.{needs}
 use Rattle.wal_list.proofs.refusal.Statement.{statement}
 use Rattle.wal_list.proofs.refusal.Tie as tie
