@@ -151,6 +151,8 @@ fn a_sync_refused_at_a_change_keeps_those_before() {
     for (i, (done, second, refusal)) in cases.into_iter().enumerate() {
         let mut m = Memory::new(4);
         m.tags[3] = 0x81;
+        // It becomes fresh; it is not so before.
+        m.writer = if i % 2 == 0 { Writer::Open(77) } else { Writer::Finished(PAGE) };
         done(&mut m);
         let tags = m.tags.clone();
         let cells = m.cells.clone();
@@ -164,12 +166,12 @@ fn a_sync_refused_at_a_change_keeps_those_before() {
         assert!(m.tags.iter().zip(&tags).enumerate().all(|(b, (now, then))| b == 2 || now == then), "case {i}");
     }
     // All hits.
-    let mut m = Memory::new(4);
+    let mut m = Memory { writer: Writer::Open(5), ..Memory::new(4) };
     m.tags[..4].fill(0x80);
     let changes = [Change::new(id(2), 0, diff(&[]), Where::Fresh)];
     let refused = m.sync(3, &changes, &pages(&changes)).expect_err("no free bucket");
     assert_eq!(refused, SyncRefused { refusal: PathCrowded, change: Some(0) });
-    assert_eq!(m.marks, [0], "zeroed before the first change");
+    assert_eq!((m.marks, m.writer), (vec![0], Writer::Fresh), "zeroed before the first change");
 }
 
 #[test]
