@@ -207,6 +207,68 @@ fn scan(text: &[u8], at: usize, ws: &mut [u64]) -> usize {
     i
 }
 
+// Where the reading of a line stands: in its words, in the remark behind them, at what is no word, or at its end.
+const IN_WORDS: u8 = 0;
+
+const IN_REMARK: u8 = 1;
+
+const STRANGE: u8 = 2;
+
+const ENDED: u8 = 3;
+
+fn in_words(b: u8) -> bool {
+    if b < b'0' {
+        return b == b' ';
+    }
+    if b < b'a' {
+        return b <= b':';
+    }
+    if b <= b'f' {
+        return true;
+    }
+    b == b'x'
+}
+
+fn behind(state: u8, b: u8) -> u8 {
+    if state == STRANGE {
+        return STRANGE;
+    }
+    if b == b'\n' {
+        return ENDED;
+    }
+    if state == IN_REMARK {
+        return IN_REMARK;
+    }
+    if b == b'#' {
+        return IN_REMARK;
+    }
+    if in_words(b) {
+        return IN_WORDS;
+    }
+    STRANGE
+}
+
+// Whether a line is whole, with nothing but words before its remark.
+fn is_whole(line: &[u8]) -> bool {
+    let mut state = IN_WORDS;
+    let mut i = 0;
+    while i < line.len() {
+        state = behind(state, line[i]);
+        i += 1;
+    }
+    state == ENDED
+}
+
+// Whether there is such an operation; 0 is that of a line with a remark alone.
+fn is_operation(op: u64) -> bool {
+    match op {
+        32 => false,
+        38 => false,
+        39 => false,
+        _ => op < 49 || (op > 55 && op < 60),
+    }
+}
+
 // What a call is given.
 struct In {
     op: u64,
@@ -1283,8 +1345,17 @@ fn line(text: &[u8], k: Next, a: &mut [u8], b: &mut [u8], c: &mut [u64]) -> Next
     let from = k.at;
     let at = scan(text, from, &mut ws);
     let mut count = k.count;
+    let said = line_of(text, from, at);
+    if from < at && !(is_whole(said) && is_operation(ws[0])) {
+        io::write_all(1, b"no line: ");
+        io::write_all(1, said);
+        return Next {
+            at,
+            count: counted(count, false),
+        };
+    }
     if ws[0] != 0 {
-        count = run(given(ws), due(ws), line_of(text, from, at), count, a, b, c);
+        count = run(given(ws), due(ws), said, count, a, b, c);
     }
     Next { at, count }
 }
