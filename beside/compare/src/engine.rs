@@ -27,6 +27,9 @@ pub fn head_of(entry: &Entry, after: u64) -> Head {
 }
 
 pub trait Engine {
+    /// Whether it is ours, and not 01's program.
+    const OURS: bool;
+
     fn diff_read(bytes: [u8; 16]) -> Answer<Diff>;
     fn diff_bytes(d: Diff) -> [u8; 16];
     fn diff_set(d: Diff, slot: u64) -> Answer<Diff>;
@@ -94,6 +97,8 @@ pub trait Engine {
 pub struct Model;
 
 impl Engine for Model {
+    const OURS: bool = false;
+
     fn diff_read(bytes: [u8; 16]) -> Answer<Diff> {
         model::diff::read(bytes)
     }

@@ -8,7 +8,7 @@ use model::{
     PAGE,
 };
 use original::hash::{hash, id_of};
-use std::{collections::BTreeMap, fmt, sync::OnceLock};
+use std::{cell::RefCell, collections::BTreeMap, fmt, sync::OnceLock};
 
 /// The seed of the original's page hash, one for a run.
 pub static HASH_SEED: OnceLock<original::Seed> = OnceLock::new();
@@ -144,6 +144,23 @@ pub fn page(with: u64) -> Filler {
 
 /// Fills bytes with a mixture.
 pub fn fill(bytes: &mut [u8], with: u64) {
+    /// Pages that were filled before; many inputs have the same.
+    type Filled = Vec<(u64, [u8; PAGE])>;
+    thread_local!(static FILLED: RefCell<Filled> = RefCell::new(vec![(0, [0; PAGE]); 64]));
+    match <&mut [u8; PAGE]>::try_from(&mut *bytes) {
+        Ok(page) => FILLED.with_borrow_mut(|filled| {
+            let kept = &mut filled[(with.wrapping_mul(0x9E37_79B9_7F4A_7C15) >> 58) as usize];
+            if kept.0 != with {
+                kept.0 = with;
+                mix(&mut kept.1, with);
+            }
+            *page = kept.1;
+        }),
+        Err(_) => mix(bytes, with),
+    }
+}
+
+fn mix(bytes: &mut [u8], with: u64) {
     if with == 0 {
         bytes.fill(0);
         return;
@@ -251,6 +268,12 @@ impl Table {
                 }
             })
             .collect()
+    }
+
+    /// The same where an image is made of each: none of gigabytes. A count above the limit is lent a small one.
+    pub fn smaller_images(&self) -> Vec<Table> {
+        let small = |t: &Table| t.n <= self.n.min(1 << 15) || t.n > model::places::MOST;
+        self.smaller().into_iter().filter(small).collect()
     }
 
     pub fn smaller(&self) -> Vec<Table> {
@@ -482,6 +505,16 @@ pub fn log_hashes(log: &[u8]) -> Vec<u64> {
         at = next;
     }
     hashes
+}
+
+/// Whether n buckets and a length of their tags are ones that 01 takes.
+pub fn tags_fit(n: u64, len: usize) -> bool {
+    (1..=1 << 20).contains(&n) && len as u64 == 4096 * n.div_ceil(4096)
+}
+
+/// The same for an image.
+pub fn image_fits(n: u64, len: usize) -> bool {
+    (1..=1 << 20).contains(&n) && len as u64 == 4096 * (n.div_ceil(4096) + n)
 }
 
 /// Numbers nearer to zero.

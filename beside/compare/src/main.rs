@@ -1,7 +1,10 @@
 //! Compares the original, document 01 and ours: the same inputs to all, every answer and every byte
 //! held against each other.
 
+mod departures;
 mod engine;
+mod faults;
+mod heard;
 mod input;
 mod ops;
 #[cfg(feature = "ours")]
@@ -10,13 +13,14 @@ mod rng;
 mod run;
 mod vectors;
 
+use faults::{Side, FAULTS};
 use rng::{mixed, Rng};
 use run::{Budget, Op, Out, Run};
 
 /// Ours, where it is linked.
 #[cfg(feature = "ours")]
 fn ours_run<O: Op>(input: &O::Input) -> Option<Out> {
-    Some(O::run::<ours::Ours>(input))
+    Some(O::run::<faults::Bent<ours::Ours>>(input))
 }
 
 #[cfg(not(feature = "ours"))]
@@ -45,9 +49,48 @@ const PARTS: [(&str, Exhaustive, Random, u64); 11] = [
 const USAGE: &str = "\
 compare [--seconds S | --cases C] [--seed N] [--only PART,PART..]
 compare vectors
+compare faults [N,N..]
   All short inputs first, then inputs by chance until S seconds have passed or C cases are done
   (default: 80 seconds). The seed is printed; the same seed gives the same inputs.
-  vectors: prints the sample of the original's answers that the program vectors replays.";
+  vectors: prints the sample of the original's answers that the program vectors replays.
+  faults: switches the comparison's own faults on, one at a time, all of them or the named ones; status 1 where
+  one is not noticed.";
+
+fn usage() -> ! {
+    eprintln!("{USAGE}");
+    std::process::exit(2);
+}
+
+/// Tries faults, one at a time, on the inputs of a part: whether all are noticed.
+fn noticed(which: &[usize]) -> bool {
+    set_hash_seed(&mut Rng(1));
+    run::watch(120);
+    let mut all = true;
+    for &i in which {
+        let fault = &FAULTS[i];
+        let told = format!("fault {i:>2}, {:?}, {}: {}", fault.side, fault.part, fault.says);
+        if fault.side == Side::Ours && !cfg!(feature = "ours") {
+            println!("{told}: not tried, ours is not linked");
+            continue;
+        }
+        let (_, exhaustive, random, _) = PARTS.iter().find(|(name, ..)| *name == fault.part).expect("a part");
+        faults::switch(Some(i));
+        let mut run = Run::trial(Budget::Seconds(60));
+        exhaustive(&mut run);
+        let mut rng = Rng(1);
+        while !run.spent() {
+            random(&mut run, &mut rng);
+        }
+        faults::switch(None);
+        match &run.noticed {
+            Some(at) => println!("{told}: noticed in {at}"),
+            None => println!("{told}: NOT NOTICED in {} cases", run.cases),
+        }
+        all &= run.noticed.is_some();
+    }
+    println!("{} of {} faults were tried{}", which.len(), FAULTS.len(), if all { ", and noticed" } else { "" });
+    all
+}
 
 fn main() {
     // An error of the original would else carry a backtrace.
@@ -60,6 +103,14 @@ fn main() {
         vectors::print();
         return;
     }
+    if let Some("faults") = std::env::args().nth(1).as_deref() {
+        let which = match std::env::args().nth(2) {
+            Some(some) => some.split(',').map(|n| n.parse().ok().filter(|n| *n < FAULTS.len())).collect(),
+            None => Some((0..FAULTS.len()).collect::<Vec<usize>>()),
+        };
+        let Some(which) = which else { usage() };
+        std::process::exit(!noticed(&which) as i32);
+    }
     let mut args = std::env::args().skip(1);
     while let Some(arg) = args.next() {
         let value = args.next();
@@ -68,10 +119,7 @@ fn main() {
             ("--cases", _, Some(c)) => budget = Budget::Cases(c),
             ("--seed", _, Some(s)) => seed = s,
             ("--only", Some(parts), _) => only = Some(parts.split(',').map(str::to_string).collect()),
-            _ => {
-                eprintln!("{USAGE}");
-                std::process::exit(2);
-            }
+            _ => usage(),
         }
     }
     let parts: Vec<_> =
@@ -82,13 +130,17 @@ fn main() {
     }
 
     let checks = if cfg!(debug_assertions) { "with debug assertions and overflow checks" } else { "as released" };
-    let ours = if cfg!(feature = "ours") { "ours" } else { "ours is not linked" };
+    let ours = match (cfg!(feature = "ours"), std::env::var_os("RUSSULADEN_LIST")) {
+        (true, Some(_)) => "ours",
+        (true, None) => "ours without the program list",
+        (false, _) => "ours is not linked",
+    };
     println!("compare --seed {seed}: document 01, the original {checks}, {ours}");
     let mut rng = Rng(seed);
     set_hash_seed(&mut rng);
     run::watch(120);
 
-    let mut run = Run::new(budget);
+    let mut run = Run::new(budget, parts.iter().map(|(name, ..)| *name).collect());
     for (name, exhaustive, ..) in &parts {
         eprintln!("short inputs: {name}");
         exhaustive(&mut run);

@@ -15,6 +15,7 @@ use model::{
     Answer, Refused,
 };
 use std::{
+    hint::black_box,
     io::Write,
     process::{Command, Stdio},
 };
@@ -107,6 +108,8 @@ fn seen(log: &[u8], at: usize) {
 }
 
 impl Engine for Ours {
+    const OURS: bool = true;
+
     fn diff_read(bytes: [u8; 16]) -> Answer<Diff> {
         answer(bitbox::Diff::from_bytes(&bytes), diff)
     }
@@ -148,7 +151,10 @@ impl Engine for Ours {
     }
 
     fn unpack(d: Diff, nodes: &Packed, page: &mut [u8]) -> Answer<()> {
-        answer(ours(d).unpack_changed_nodes(&packed(nodes), page), |()| ())
+        let lent = packed(nodes);
+        let said = ours(d).unpack_changed_nodes(&lent, page);
+        assert!(*black_box(&lent) == packed(nodes), "nodes that are lent for reading are not written");
+        answer(said, |()| ())
     }
 
     fn full_tag(hash: u64) -> u8 {
@@ -275,6 +281,8 @@ impl Engine for Ours {
         let mut after = our_writer(w);
         let update = bitbox::Update { bucket, id: *id, diff: ours(d), nodes: packed(nodes), elided: *elided };
         let said = after.write_update(log, &update);
+        let read = black_box(&update);
+        assert!((read.id, read.nodes, read.elided) == (*id, packed(nodes), *elided), "an update is only read");
         kept(w, after, said).map(|((), after)| after)
     }
 
@@ -298,6 +306,7 @@ impl Engine for Ours {
         let records: Vec<bitbox::Change> = changes.iter().map(change).collect();
         let mut after = our_writer(*w);
         let said = bitbox::sync(&mut our_lent(lent), &mut after, number, &records, pages);
+        assert!(black_box(&records).iter().copied().eq(changes.iter().map(change)), "changes are only read");
         *w = writer(after);
         match said {
             Ok(synced) => Synced::Done { occupied: synced.occupied, length: synced.length as u64 },
@@ -364,6 +373,11 @@ impl Engine for Ours {
         // It may end before it has read all.
         let _ = child.stdin.take().expect("its standard input").write_all(log);
         let said = child.wait_with_output().expect("the program list ends");
-        String::from_utf8_lossy(&said.stdout).into_owned()
+        let lines = String::from_utf8_lossy(&said.stdout).into_owned();
+        if said.status.success() {
+            lines
+        } else {
+            format!("{lines}ended with {}\n", said.status)
+        }
     }
 }

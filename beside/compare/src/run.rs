@@ -1,8 +1,12 @@
 //! A run: each case is asked of 01, of the original and of ours, the answers are held against each
 //! other, and what was seen is counted.
 
-use crate::engine::{Engine, Model};
-use original::Trouble;
+use crate::{
+    departures,
+    engine::{Engine, Model},
+    faults::Bent,
+    heard::{bytes_told, Heard, ROWS},
+};
 use std::{
     collections::BTreeMap,
     fmt::{self, Debug},
@@ -45,22 +49,28 @@ impl Debug for Said {
 pub struct Out {
     pub said: Said,
     pub bytes: Vec<(&'static str, Vec<u8>)>,
+    /// Memory that is lent for reading, as it is after the call.
+    pub read: Vec<(&'static str, Vec<u8>)>,
 }
 
 impl Out {
-    pub fn value(name: &'static str, values: &[u64]) -> Self {
-        Out { said: Said::Value(name, values.to_vec()), bytes: vec![] }
+    pub fn said(said: Said) -> Self {
+        Out { said, bytes: vec![], read: vec![] }
     }
 
-    pub fn refused(why: model::Refused) -> Self {
-        Out { said: Said::Refused(why.0), bytes: vec![] }
+    pub fn value(name: &'static str, values: &[u64]) -> Self {
+        Out::said(Said::Value(name, values.to_vec()))
+    }
+
+    pub fn refused(number: u8) -> Self {
+        Out::said(Said::Refused(number))
     }
 
     /// An answer whose value is told by a name and numbers.
     pub fn of<T>(answer: model::Answer<T>, told: impl FnOnce(T) -> Out) -> Self {
         match answer {
             Ok(value) => told(value),
-            Err(why) => Out::refused(why),
+            Err(why) => Out::refused(why.0),
         }
     }
 
@@ -69,96 +79,30 @@ impl Out {
         self
     }
 
+    pub fn reading(mut self, name: &'static str, bytes: impl Into<Vec<u8>>) -> Self {
+        self.read.push((name, bytes.into()));
+        self
+    }
+
     /// In words, where another differs.
     fn told_beside(&self, other: &Out) -> String {
-        let mut told = format!("{:?}", self.said);
-        for (i, (name, bytes)) in self.bytes.iter().enumerate() {
-            match other.bytes.get(i) {
-                Some((_, others)) if others == bytes => {}
-                Some((_, others)) => {
-                    let at = bytes.iter().zip(others).position(|(a, b)| a != b);
-                    let at = at.unwrap_or(bytes.len().min(others.len()));
-                    let shown: Vec<String> = bytes[at..].iter().take(8).map(|b| format!("{b:02x}")).collect();
-                    told += &format!(", {name} ({} bytes) at {at}: {}", bytes.len(), shown.join(" "));
-                }
-                None => told += &format!(", {name} ({} bytes)", bytes.len()),
-            }
-        }
-        told
+        let read = if self.read == other.read { String::new() } else { bytes_told(&self.read, &other.read) };
+        format!("{:?}{}{read}", self.said, bytes_told(&self.bytes, &other.bytes))
     }
 }
 
-/// What was heard of the original.
-pub enum Heard {
-    Answered(Out),
-    Refused(String),
-    Panicked(String),
-    /// It would not end, and was not called.
-    Endless,
-    /// It has no such call, or no such input.
-    NotAsked,
-    /// The operation has itself compared what can be compared.
-    Held(Result<(), String>),
+pub fn u64_bytes(of: &[u64]) -> Vec<u8> {
+    of.iter().flat_map(|x| x.to_le_bytes()).collect()
 }
 
-impl From<Trouble> for Heard {
-    fn from(trouble: Trouble) -> Self {
-        match trouble {
-            Trouble::Error(said) => Heard::Refused(said),
-            Trouble::Panic(said) => Heard::Panicked(said),
-            Trouble::Endless => Heard::Endless,
-        }
+/// Pages with their numbers, one after the other.
+pub fn page_bytes<P: AsRef<[u8]>>(pages: &[(u64, P)]) -> Vec<u8> {
+    let mut bytes = Vec::with_capacity(pages.len() * (8 + model::PAGE));
+    for (pn, page) in pages {
+        bytes.extend(pn.to_le_bytes());
+        bytes.extend_from_slice(page.as_ref());
     }
-}
-
-impl Heard {
-    pub fn of<T>(said: original::Said<T>, told: impl FnOnce(T) -> Out) -> Self {
-        match said {
-            Ok(value) => Heard::Answered(told(value)),
-            Err(trouble) => trouble.into(),
-        }
-    }
-
-    fn told(&self, model: &Out) -> String {
-        match self {
-            Heard::Answered(out) => out.told_beside(model),
-            Heard::Refused(said) => format!("error '{said}'"),
-            Heard::Panicked(said) => format!("panic '{}'", said.lines().next().unwrap_or("")),
-            Heard::Endless => "never ends".to_string(),
-            Heard::NotAsked => "not asked".to_string(),
-            Heard::Held(Ok(())) => "agrees".to_string(),
-            Heard::Held(Err(said)) => said.clone(),
-        }
-    }
-}
-
-/// The refusal numbers that an error of the original stands for.
-pub fn numbers(error: &str) -> &'static [u8] {
-    const KNOWN: [(&str, &[u8]); 22] = [
-        ("bucket count must be greater than zero", &[1]),
-        ("hash table has zero buckets", &[1]),
-        ("unexpected file length", &[1, 2]),
-        ("Invalid page diff", &[4]),
-        ("reserved bits", &[4]),
-        ("not a multiple of the page size", &[5]),
-        ("Unexpected end of WAL file", &[6]),
-        ("unexpected WAL entry tag at start", &[7]),
-        ("unknown WAL entry tag", &[8]),
-        ("failed to fill whole buffer", &[9]),
-        ("bucket exhaustion", &[10]),
-        ("failed to allocate bucket", &[10]),
-        ("invalid rehash marker length", &[15]),
-        ("invalid rehash marker magic", &[16]),
-        ("invalid rehash marker bucket counts", &[17]),
-        ("pending rehash marker", &[18]),
-        ("cannot shrink", &[19]),
-        ("non-empty padding", &[20]),
-        ("duplicate page label", &[21]),
-        ("mismatched meta hint", &[22]),
-        ("probe hit empty bucket", &[23]),
-        ("was not reached within", &[24]),
-    ];
-    KNOWN.iter().find(|(part, _)| error.contains(part)).map_or(&[], |(_, numbers)| numbers)
+    bytes
 }
 
 /// An operation, or a few of one kind.
@@ -170,13 +114,8 @@ pub trait Op {
 
     fn run<E: Engine>(input: &Self::Input) -> Out;
 
-    /// The same of the original; what 01 answers is told, so that it is not asked what it can't be.
-    fn original(input: &Self::Input, model: &Out) -> Heard;
-
-    /// The known departure that a difference is, if it is one.
-    fn known(_input: &Self::Input, _model: &Out, _heard: &Heard) -> Option<&'static str> {
-        None
-    }
+    /// What the original does, and what 01 has to answer by it. What 01 does answer is not told here.
+    fn original(input: &Self::Input) -> Heard;
 
     /// What a case of many parts has gone through, to be counted.
     fn notes(_input: &Self::Input, _model: &Out) -> Vec<&'static str> {
@@ -204,36 +143,27 @@ struct Judged {
 }
 
 fn judged<O: Op>(input: &O::Input) -> Judged {
-    let model = O::run::<Model>(input);
+    let model = O::run::<Bent<Model>>(input);
     let ours = crate::ours_run::<O>(input);
-    let heard = O::original(input, &model);
-    let agrees = match (&model.said, &heard) {
-        (_, Heard::NotAsked) => None,
-        (Said::Value(..), Heard::Answered(out)) => Some(*out == model),
-        (_, Heard::Refused(error)) => Some(model.said.number().is_some_and(|n| numbers(error).contains(&n))),
-        (_, Heard::Held(held)) => Some(held.is_ok()),
-        _ => Some(false),
-    };
-    let verdict = match agrees {
+    let heard = O::original(input);
+    let verdict = match &heard {
         _ if ours.as_ref().is_some_and(|ours| *ours != model) => Verdict::OursDiffers,
-        None => Verdict::NotAsked,
-        Some(true) => Verdict::Agrees,
-        Some(false) => match O::known(input, &model, &heard) {
+        Heard::NotAsked => Verdict::NotAsked,
+        Heard::Held(Ok(())) => Verdict::Agrees,
+        Heard::Says { out, departs, .. } if (&out.said, &out.bytes) == (&model.said, &model.bytes) => match departs {
             Some(known) => Verdict::Known(known),
-            None => Verdict::OriginalDiffers,
+            None => Verdict::Agrees,
         },
+        _ => Verdict::OriginalDiffers,
     };
     Judged { verdict, model, heard, ours }
 }
 
 /// What the original answers, or refuses with an error, where 01 says the same. Ours is not asked.
 pub fn agreed<O: Op>(input: &O::Input) -> Option<Out> {
-    let model = O::run::<Model>(input);
-    match O::original(input, &model) {
-        Heard::Answered(out) if out == model => Some(out),
-        Heard::Refused(error) if model.said.number().is_some_and(|n| numbers(&error).contains(&n)) => {
-            Some(Out { said: model.said, bytes: vec![] })
-        }
+    let model = O::run::<Bent<Model>>(input);
+    match O::original(input) {
+        Heard::Says { out, departs: None, .. } if (&out.said, &out.bytes) == (&model.said, &model.bytes) => Some(out),
         _ => None,
     }
 }
@@ -267,19 +197,6 @@ struct Tally {
     heard: [u64; 6],
     known: BTreeMap<&'static str, u64>,
     notes: BTreeMap<&'static str, u64>,
-}
-
-const HEARD: [&str; 6] = ["answered", "error", "panic", "endless", "not asked", "held"];
-
-fn heard_row(heard: &Heard) -> usize {
-    match heard {
-        Heard::Answered(_) => 0,
-        Heard::Refused(_) => 1,
-        Heard::Panicked(_) => 2,
-        Heard::Endless => 3,
-        Heard::NotAsked => 4,
-        Heard::Held(_) => 5,
-    }
 }
 
 /// The refusals that document 01 gives each operation: of the call, and of a sync at a change.
@@ -328,6 +245,8 @@ pub enum Budget {
 }
 
 pub struct Run {
+    /// The parts whose short inputs are all asked.
+    parts: Vec<&'static str>,
     tallies: BTreeMap<&'static str, Tally>,
     examples: BTreeMap<&'static str, String>,
     budget: Budget,
@@ -335,15 +254,19 @@ pub struct Run {
     told: Instant,
     pub cases: u64,
     pub differences: u64,
+    /// For a trial, which ends at its first difference: where that was.
+    trial: bool,
+    pub noticed: Option<String>,
 }
 
 /// Differences that are shown before a run gives up.
 const SHOWN: u64 = 10;
 
 impl Run {
-    pub fn new(budget: Budget) -> Self {
+    pub fn new(budget: Budget, parts: Vec<&'static str>) -> Self {
         let now = Instant::now();
         Run {
+            parts,
             tallies: BTreeMap::new(),
             examples: BTreeMap::new(),
             budget,
@@ -351,11 +274,22 @@ impl Run {
             told: now,
             cases: 0,
             differences: 0,
+            trial: false,
+            noticed: None,
         }
     }
 
+    /// A run that ends at its first difference, and prints nothing.
+    pub fn trial(budget: Budget) -> Self {
+        Run { trial: true, ..Run::new(budget, vec![]) }
+    }
+
+    fn given_up(&self) -> bool {
+        self.differences >= if self.trial { 1 } else { SHOWN }
+    }
+
     pub fn spent(&self) -> bool {
-        if self.differences >= SHOWN {
+        if self.given_up() {
             return true;
         }
         match self.budget {
@@ -366,12 +300,20 @@ impl Run {
 
     /// Asks one case of all.
     pub fn case<O: Op>(&mut self, input: O::Input) {
-        if self.differences >= SHOWN {
+        if self.given_up() {
             return;
         }
         let name = O::name(&input);
         let judged = watched::<O, _>(&input, judged::<O>);
         self.cases += 1;
+        if self.trial {
+            if matches!(judged.verdict, Verdict::OriginalDiffers | Verdict::OursDiffers) {
+                self.differences += 1;
+                let which = if judged.verdict == Verdict::OursDiffers { "ours" } else { "the original" };
+                self.noticed = Some(format!("{name}, {which}, after {} cases", self.cases));
+            }
+            return;
+        }
         let tally = self.tallies.entry(name).or_default();
         tally.cases += 1;
         match judged.model.said.number() {
@@ -381,7 +323,7 @@ impl Run {
                 *tally.refused.entry((at, number)).or_default() += 1;
             }
         }
-        tally.heard[heard_row(&judged.heard)] += 1;
+        tally.heard[judged.heard.row()] += 1;
         for note in O::notes(&input, &judged.model) {
             *tally.notes.entry(note).or_default() += 1;
         }
@@ -409,9 +351,11 @@ impl Run {
         }
     }
 
-    /// The refusals of the operations in this run that no case met.
+    /// The refusals of the operations in this run that no case met, and the departures.
     pub fn untried(&self) -> Vec<String> {
         let mut out = Vec::new();
+        let departures = self.parts.iter().flat_map(|part| departures::of_part(part));
+        out.extend(departures.filter(|says| !self.examples.contains_key(says)).map(|says| format!("'{says}'")));
         for (name, plain, at_a_change) in REFUSALS {
             let Some(t) = self.tallies.get(name) else { continue };
             let wanted = plain.iter().map(|n| (false, *n)).chain(at_a_change.iter().map(|n| (true, *n)));
@@ -428,14 +372,14 @@ impl Run {
             println!("{name:<18}{:>10}{:>10}  {}", t.cases, t.accepted, refused.join(", "));
         }
         match &self.untried()[..] {
-            [] => println!("each refusal that 01 gives these operations was met"),
+            [] => println!("each refusal that 01 gives these operations was met, and each known departure"),
             untried => println!("NOT MET: {}", untried.join(", ")),
         }
         for (name, t) in self.tallies.iter().filter(|(_, t)| !t.notes.is_empty()) {
             let notes: Vec<String> = t.notes.iter().map(|(n, c)| format!("{n}: {c}")).collect();
             println!("\n{name}, act by act: {}", notes.join(", "));
         }
-        println!("\nthe original{:>5}{}", "", HEARD.map(|h| format!("{h:>11}")).join(""));
+        println!("\nthe original{:>5}{}", "", ROWS.map(|h| format!("{h:>11}")).join(""));
         for (name, t) in &self.tallies {
             println!("{name:<17}{}", t.heard.map(|c| format!("{c:>11}")).join(""));
         }
@@ -466,10 +410,12 @@ fn told<O: Op>(input: &O::Input) -> String {
         None => String::new(),
     };
     let beside = match &j.heard {
-        Heard::Answered(out) => out.clone(),
-        _ => j.model.clone(),
+        Heard::Says { did, .. } | Heard::Otherwise { did, .. } if !did.left.is_empty() => &did.left,
+        Heard::Says { out, .. } => &out.bytes,
+        _ => &j.model.bytes,
     };
-    format!("{input:?}; 01: {}; original: {}{ours}", j.model.told_beside(&beside), j.heard.told(&j.model))
+    let model = format!("{:?}{}", j.model.said, bytes_told(&j.model.bytes, beside));
+    format!("{input:?}; 01: {model}; original: {}{ours}", j.heard.told(&j.model))
 }
 
 // A call that does not come back can't be stopped: a watch tells its input and ends the run.

@@ -44,5 +44,5 @@ pub mod sync;
 pub mod tags;
 pub mod timed;
 
-pub use caught::{Said, Trouble};
+pub use caught::{Panic, Said, Trouble};
 pub use hash::Seed;

@@ -13,6 +13,8 @@ pub struct Replayed {
     pub said: Said<()>,
     /// The table file afterwards.
     pub image: Vec<u8>,
+    /// The length of the log file afterwards.
+    pub log: u64,
 }
 
 /// `ht_file::open` on an image, and `recover` of a log there.
@@ -24,6 +26,6 @@ pub fn recover(image: &[u8], n: u32, seed: &Seed, log: &[u8], sync: u32) -> Repl
             let (offsets, mut map) = ht_file::open(n, &stage.pool, stage.ht())?;
             beside::recover(sync, stage.ht(), stage.wal(), &stage.pool, &offsets, &mut map, *seed)
         });
-        Replayed { said, image: stage.image() }
+        Replayed { said, image: stage.image(), log: stage.log_len() }
     })
 }

@@ -8,8 +8,8 @@ use crate::{
     io::{start_io_pool, IoPool, PagePool, PAGE_SIZE},
     page_cache::PageCache,
     page_id::PageId,
-    path::Loaded,
-    stage::{put, taken},
+    path::{ends_in, load_ends},
+    stage::{put, taken, taken_pages},
     store::meta::Meta,
     sync::{dirty, plain_cells, shared_cells, Change},
 };
@@ -67,6 +67,11 @@ impl Folder {
 
     pub fn file(&self, name: &str) -> Vec<u8> {
         taken(&self.open(name))
+    }
+
+    /// The length of a file, and its pages that are not all zero.
+    pub fn file_pages(&self, name: &str) -> (u64, Vec<(u64, Vec<u8>)>) {
+        taken_pages(&self.open(name))
     }
 
     pub fn has(&self, name: &str) -> bool {
@@ -223,23 +228,24 @@ impl Running {
         Ok(synced)
     }
 
-    /// A page load on the open store; the caller sees to it that the path has a hit or an empty bucket.
-    pub fn load(&self, id: [u8; 32]) -> Said<Loaded> {
+    /// A page load on the open store: the bucket, or none where the page is not there.
+    pub fn load(&self, id: [u8; 32]) -> Said<Option<u64>> {
         let handle = self.io.make_handle();
+        let (tags, image, n) = (self.tags(), self.image(), self.n as usize);
+        if !load_ends(&tags, n, crate::hash::hash(id, &self.seed), |b| ends_in(&image, n, b, &id)) {
+            return Err(Trouble::Endless);
+        }
         caught(|| {
             let loader = PageLoader::new(self.db());
             let mut load = loader.start_load(PageId(id));
             loop {
-                if beside::visits(&load) >= 2 * self.n as u64 {
-                    return Loaded::Closed;
-                }
                 if !loader.probe(&mut load, &handle, 0) {
-                    return Loaded::Absent;
+                    return None;
                 }
                 let complete = handle.recv().expect("the read is done");
                 complete.result.expect("a page of the table");
                 if let Some((_, bucket)) = load.try_complete(complete.command.kind.unwrap_buf()) {
-                    return Loaded::Bucket(beside::index(bucket));
+                    return Some(beside::index(bucket));
                 }
             }
         })

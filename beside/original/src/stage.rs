@@ -11,7 +11,10 @@ use crate::{
 use std::{
     cell::RefCell,
     fs::File,
-    os::{fd::FromRawFd, unix::fs::FileExt},
+    os::{
+        fd::{AsRawFd, FromRawFd},
+        unix::fs::FileExt,
+    },
 };
 use threadpool::ThreadPool;
 
@@ -77,11 +80,17 @@ impl Stage {
     pub fn put_log(&self, log: &[u8]) {
         put(self.wal(), log);
     }
+
+    pub fn log_len(&self) -> u64 {
+        self.wal().metadata().expect("a file in memory").len()
+    }
 }
+
+/// Files up to this length are written and read as a whole.
+const SHORT: usize = 1 << 18;
 
 /// Makes a file hold these bytes; whole pages of zeros are left as holes in a long one.
 pub fn put(file: &File, bytes: &[u8]) {
-    const SHORT: usize = 1 << 18;
     file.set_len(0).expect("a file in memory");
     if bytes.len() <= SHORT {
         file.write_all_at(bytes, 0).expect("a file in memory");
@@ -101,6 +110,34 @@ pub fn taken(file: &File) -> Vec<u8> {
     let mut bytes = vec![0; len];
     file.read_exact_at(&mut bytes, 0).expect("a file in memory");
     bytes
+}
+
+/// The length of a file, and its pages that are not all zero. Holes of a long one are not read.
+pub fn taken_pages(file: &File) -> (u64, Vec<(u64, Vec<u8>)>) {
+    let len = file.metadata().expect("a file in memory").len();
+    let mut pages = Vec::new();
+    let mut at = 0;
+    while let Some(start) = data_from(file, at, len) {
+        let mut bytes = vec![0; (len - start).min(SHORT as u64) as usize];
+        file.read_exact_at(&mut bytes, start).expect("a file in memory");
+        for (i, page) in bytes.chunks(PAGE_SIZE).enumerate() {
+            if page.iter().any(|&b| b != 0) {
+                pages.push((start / PAGE_SIZE as u64 + i as u64, page.to_vec()));
+            }
+        }
+        at = start + bytes.len() as u64;
+    }
+    (len, pages)
+}
+
+/// The page's start from which on a file has data.
+fn data_from(file: &File, at: u64, len: u64) -> Option<u64> {
+    if at >= len || len <= SHORT as u64 {
+        return (at < len).then_some(at);
+    }
+    // SAFETY: the descriptor is open; the call moves its place, which nobody else uses.
+    let data = unsafe { libc::lseek(file.as_raw_fd(), at as i64, libc::SEEK_DATA) };
+    (data >= 0).then_some(data as u64 / PAGE_SIZE as u64 * PAGE_SIZE as u64)
 }
 
 fn memory_file() -> File {

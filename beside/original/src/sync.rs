@@ -34,7 +34,6 @@ pub struct Change<'a> {
 /// What a sync has given.
 #[derive(Clone, Debug, PartialEq, Eq)]
 pub struct Prepared {
-    pub log: Vec<u8>,
     /// The pages to write, by page number, in the order in which they were given (with debug
     /// assertions: by page number).
     pub pages: Vec<(u64, Vec<u8>)>,
@@ -42,12 +41,14 @@ pub struct Prepared {
     pub buckets: Vec<Option<u64>>,
 }
 
-/// What a sync leaves, whether it is refused or not.
-#[derive(Clone, Debug, PartialEq, Eq)]
+/// What a sync leaves, whether it came back or not.
+#[derive(Clone, Debug, Default, PartialEq, Eq)]
 pub struct Left {
     pub tags: Vec<u8>,
     pub cells: Vec<u64>,
     pub occupied: u64,
+    /// What stands in the log's buffer.
+    pub log: Vec<u8>,
 }
 
 /// The changes as the original takes them, and the cells they share.
@@ -76,7 +77,8 @@ pub(crate) fn plain_cells(cells: &[SharedMaybeBucketIndex]) -> Vec<u64> {
     cells.iter().map(|c| c.get().map_or(u64::MAX, beside::index)).collect()
 }
 
-/// `prepare_sync` on these tags. It is for the caller to see that no change would probe for ever.
+/// `prepare_sync` on these tags. It is for the caller to see that no change would probe for ever. Nothing is left
+/// where a map of the tags can't be had.
 pub fn prepare(
     n: usize,
     seed: &Seed,
@@ -86,7 +88,9 @@ pub fn prepare(
     cells: &[u64],
 ) -> (Said<Prepared>, Left) {
     with_stage(|stage| {
-        stage.put_tags(n as u32, *seed, tags);
+        if let Err(trouble) = caught(|| stage.put_tags(n as u32, *seed, tags)) {
+            return (Err(trouble), Left::default());
+        }
         let cells = shared_cells(cells);
         let changes = dirty(&stage.pool, changes, &cells);
         let builder: &mut wal::write::WalBlobBuilder = &mut stage.builder;
@@ -97,9 +101,9 @@ pub fn prepare(
             tags: beside::tags(&stage.db),
             cells: plain_cells(&cells),
             occupied: stage.db.utilization().occupied as u64,
+            log: stage.builder.as_slice().to_vec(),
         };
         let said = said.map(|(pages, updates)| Prepared {
-            log: stage.builder.as_slice().to_vec(),
             pages: pages.iter().map(|(pn, page)| (*pn, page.to_vec())).collect(),
             buckets: updates.into_iter().map(|(_, update)| update.map(|(_, bucket)| beside::index(bucket))).collect(),
         });

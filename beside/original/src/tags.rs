@@ -30,22 +30,24 @@ pub fn hints(tags: &[u8], n: usize, bucket: usize, hash: u64) -> Said<Hints> {
     })
 }
 
-/// The tags after a full tag is set.
-pub fn set_full(tags: &[u8], n: usize, bucket: usize, hash: u64) -> Said<Vec<u8>> {
-    caught(|| {
-        let mut map = MetaMap::from_bytes(tags.to_vec(), n);
-        map.set_full(bucket, hash);
-        meta_map::tags(&map).to_vec()
-    })
+/// The tags after a call, whether it came back or not.
+fn changed(tags: &[u8], n: usize, call: impl FnOnce(&mut MetaMap)) -> (Said<()>, Vec<u8>) {
+    let mut map = match caught(|| MetaMap::from_bytes(tags.to_vec(), n)) {
+        Ok(map) => map,
+        Err(trouble) => return (Err(trouble), tags.to_vec()),
+    };
+    let said = caught(|| call(&mut map));
+    (said, meta_map::tags(&map).to_vec())
 }
 
-/// The tags after a tombstone is set.
-pub fn set_tombstone(tags: &[u8], n: usize, bucket: usize) -> Said<Vec<u8>> {
-    caught(|| {
-        let mut map = MetaMap::from_bytes(tags.to_vec(), n);
-        map.set_tombstone(bucket);
-        meta_map::tags(&map).to_vec()
-    })
+/// A full tag is set; the tags afterwards.
+pub fn set_full(tags: &[u8], n: usize, bucket: usize, hash: u64) -> (Said<()>, Vec<u8>) {
+    changed(tags, n, |map| map.set_full(bucket, hash))
+}
+
+/// A tombstone is set; the tags afterwards.
+pub fn set_tombstone(tags: &[u8], n: usize, bucket: usize) -> (Said<()>, Vec<u8>) {
+    changed(tags, n, |map| map.set_tombstone(bucket))
 }
 
 pub fn full_count(tags: &[u8], n: usize) -> Said<usize> {

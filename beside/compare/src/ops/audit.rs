@@ -2,9 +2,11 @@
 
 use crate::{
     engine::Engine,
-    input::{any_count, any_tags, hash_at, hash_seed, Label, Table},
+    faults::heard,
+    heard::{Did, Heard},
+    input::{any_count, any_tags, hash_at, hash_seed, image_fits, Label, Table},
     rng::{mixed, Rng},
-    run::{Heard, Op, Out, Run, Said},
+    run::{u64_bytes, Op, Out, Run},
 };
 use model::{
     path::find,
@@ -39,8 +41,17 @@ impl fmt::Debug for Input {
     }
 }
 
-fn audited(capacity: u64, occupied: u64, rate: f64) -> Out {
-    Out::value("audited", &[capacity, occupied, rate.to_bits()])
+impl Input {
+    fn hashes(&self) -> Vec<u64> {
+        let mut hashes = self.table.hashes();
+        let len = (hashes.len() as i64 + self.hashes_more).max(0) as usize;
+        hashes.resize(len, 1 << 60);
+        if self.foreign {
+            // Another home under the same tag, mostly.
+            hashes.iter_mut().for_each(|h| *h = *h >> 57 << 57 | mixed(*h) >> 7);
+        }
+        hashes
+    }
 }
 
 impl Op for AuditOp {
@@ -51,28 +62,33 @@ impl Op for AuditOp {
     }
 
     fn run<E: Engine>(input: &Input) -> Out {
-        let mut hashes = input.table.hashes();
-        let len = (hashes.len() as i64 + input.hashes_more).max(0) as usize;
-        hashes.resize(len, 1 << 60);
-        if input.foreign {
-            // Another home under the same tag, mostly.
-            hashes.iter_mut().for_each(|h| *h = *h >> 57 << 57 | mixed(*h) >> 7);
-        }
-        Out::of(E::audit(&input.table.image(), input.table.n, &hashes), |a| audited(a.capacity, a.occupied, a.rate))
+        let (image, hashes) = (input.table.image(), input.hashes());
+        let said = E::audit(&image, input.table.n, &hashes);
+        Out::of(said, |a| Out::value("audited", &[a.capacity, a.occupied, a.rate.to_bits()]))
+            .reading("image", image)
+            .reading("hashes", u64_bytes(&hashes))
     }
 
-    fn original(input: &Input, model: &Out) -> Heard {
-        if input.foreign || input.hashes_more != 0 && model.said == Said::Refused(2) || input.table.n > MOST {
+    fn original(input: &Input) -> Heard {
+        let n = input.table.n;
+        if input.foreign || n > u32::MAX as u64 {
             return Heard::NotAsked;
         }
-        let said =
-            FOLDER.with(|f| original::audit::validate(f, &input.table.image(), input.table.n as u32, hash_seed()));
-        Heard::of(said, |a| audited(a.capacity as u64, a.occupied as u64, a.rate))
+        let image = input.table.image();
+        let said = FOLDER.with(|f| original::audit::validate(f, &image, n as u32, hash_seed()));
+        let did = Did::of(heard("audit", &[n], said), |a| {
+            Did::value("audited", &[a.capacity as u64, a.occupied as u64, a.rate.to_bits()])
+        });
+        if image_fits(n, image.len()) && input.hashes().len() as u64 != n {
+            // It takes no hashes.
+            return Heard::Says { did, out: Out::refused(2), departs: None };
+        }
+        did.plain()
     }
 
     fn smaller(input: &Input) -> Vec<Input> {
         let mut out: Vec<Input> =
-            input.table.smaller().into_iter().map(|table| Input { table, ..input.clone() }).collect();
+            input.table.smaller_images().into_iter().map(|table| Input { table, ..input.clone() }).collect();
         if input.hashes_more != 0 {
             out.push(Input { hashes_more: 0, ..input.clone() });
         }
@@ -88,6 +104,15 @@ fn audit(table: Table) -> Input {
 }
 
 pub fn exhaustive(run: &mut Run) {
+    // Large tables with many full buckets: in order, and with one label twice.
+    for n in [4300, 10_600, 16_500] {
+        let mut table = stored(&mut Rng(n), n, n * 3 / 4);
+        run.case::<AuditOp>(audit(table.clone()));
+        let full: Vec<u64> = table.labels.keys().copied().collect();
+        let first = table.labels[&full[0]];
+        table.labels.insert(full[full.len() - 1], first);
+        run.case::<AuditOp>(audit(table));
+    }
     // All tables of up to three buckets; each full one with a page of each home, of its tag or not, or
     // with another's label.
     let some = [0x00, 0x01, 0x7F, 0x80, 0x81];
@@ -136,6 +161,19 @@ pub fn exhaustive(run: &mut Run) {
     }
 }
 
+/// A table of so many pages, put where allocation puts them.
+pub fn stored(rng: &mut Rng, n: u64, pages: u64) -> Table {
+    let mut table = Table::new(n, &vec![0; n as usize]);
+    for i in 0..pages {
+        let label = Label { hash: rng.next(), free: i };
+        if let Ok(b) = find(&table.tags.0, n, label.hash) {
+            table.tags.0[b as usize] = full_tag(label.hash);
+            table.labels.insert(b, label);
+        }
+    }
+    table
+}
+
 /// A table that an audit passes: pages put where allocation puts them, and some cleared again.
 pub fn orderly(rng: &mut Rng, n: u64) -> Table {
     let mut table = Table { with: rng.below(1 << 16), ..Table::new(n, &vec![0; n as usize]) };
@@ -143,9 +181,7 @@ pub fn orderly(rng: &mut Rng, n: u64) -> Table {
     let tags = if rng.once_in(2) { 128 } else { 2 };
     for i in 0..rng.below(n + n / 2 + 1) {
         let label = Label { hash: hash_at(rng.below(tags), rng.below(homes), n), free: i };
-        let mut now = table.tag_bytes();
-        if let Ok(b) = find(&now, n, label.hash) {
-            now[b as usize] = full_tag(label.hash);
+        if let Ok(b) = find(&table.tags.0, n, label.hash) {
             table.tags.0[b as usize] = full_tag(label.hash);
             table.labels.insert(b, label);
         }

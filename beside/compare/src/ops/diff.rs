@@ -1,10 +1,13 @@
 //! page_diff.rs: diffs of marks, pack, unpack, join.
 
 use crate::{
+    departures as known,
     engine::Engine,
+    faults::heard,
+    heard::{outside, range_outside, unequal, Did, Heard},
     input::{any_diff, page, smaller_diff, smaller_number, words, Filler},
     rng::Rng,
-    run::{Heard, Op, Out, Run, Said},
+    run::{Op, Out, Run},
 };
 use model::{
     diff::{Diff, Packed, NODE, SLOTS},
@@ -36,13 +39,91 @@ fn diff_out(d: Diff) -> Out {
     Out::value("diff", &words(d))
 }
 
-fn words_out(w: [u64; 2]) -> Out {
-    Out::value("diff", &w)
+fn words_did(w: [u64; 2]) -> Did {
+    Did::value("diff", &w)
 }
 
 fn flag(b: bool) -> Out {
     Out::value(if b { "yes" } else { "no" }, &[])
 }
+
+fn flag_did(b: bool) -> Did {
+    Did::value(if b { "yes" } else { "no" }, &[])
+}
+
+/// Nodes that were packed, and zeros up to a table of 126.
+fn packed_did(mut nodes: Vec<[u8; NODE]>) -> Did {
+    let count = nodes.len();
+    nodes.resize(count.max(SLOTS), [0; NODE]);
+    Did::value("packed", &[count as u64]).with("nodes", nodes.as_flattened())
+}
+
+/// The number that 01 refuses a packing with, or an unpacking of so many nodes.
+fn refusal(d: Diff, len: usize, count: Option<u64>) -> Option<u8> {
+    match count {
+        _ if len != PAGE => Some(2),
+        _ if d.0 >> 126 != 0 => Some(4),
+        Some(count) if count != d.0.count_ones() as u64 => Some(2),
+        _ => None,
+    }
+}
+
+/// The slots that the original goes through, up to the first that a page of a length does not reach.
+fn reached(d: Diff, len: usize) -> (Vec<usize>, Option<usize>) {
+    let slots = d.slots();
+    let within = slots.iter().take_while(|&&s| NODE * (s + 1) <= len).count();
+    (slots[..within].to_vec(), slots.get(within).copied())
+}
+
+const NOT_CLEARED: &str = "page_diff.rs:107";
+
+/// What the original does with a diff or a page that 01 refuses to pack.
+fn packed_by(d: Diff, page: &[u8]) -> (known::Departure, Did) {
+    if d.cleared() {
+        return (known::BIT_127, Did::panic(NOT_CLEARED, unequal(1 << 63, 0)));
+    }
+    match reached(d, page.len()) {
+        (_, Some(slot)) => {
+            let said = range_outside(page.len(), NODE * slot..NODE * (slot + 1));
+            (known::PAGE_SHORT, Did::panic("page_diff.rs:74", said))
+        }
+        (slots, None) => {
+            let nodes = slots.iter().map(|s| page[NODE * s..][..NODE].try_into().unwrap()).collect();
+            (if page.len() == PAGE { known::BIT_126 } else { known::PAGE_TAKEN }, packed_did(nodes))
+        }
+    }
+}
+
+/// The same of an unpacking.
+fn unpacked_by(d: Diff, nodes: &[[u8; NODE]], mut page: Vec<u8>) -> (known::Departure, Did) {
+    let count = d.0.count_ones() as u64;
+    if count != nodes.len() as u64 {
+        return (
+            known::NODE_COUNT,
+            Did::panic("page_diff.rs:83", unequal(count, nodes.len() as u64)).with("page", page),
+        );
+    }
+    if d.cleared() {
+        return (known::BIT_127, Did::panic(NOT_CLEARED, unequal(1 << 63, 0)).with("page", page));
+    }
+    let (slots, short) = reached(d, page.len());
+    for (slot, node) in slots.iter().zip(nodes) {
+        page[NODE * slot..][..NODE].copy_from_slice(node);
+    }
+    match short {
+        Some(slot) => {
+            let said = range_outside(page.len(), NODE * slot..NODE * (slot + 1));
+            (known::PAGE_SHORT, Did::panic("page_diff.rs:87", said).with("page", page))
+        }
+        None => {
+            let how = if page.len() == PAGE { known::BIT_126 } else { known::PAGE_TAKEN };
+            (how, Did::value("done", &[]).with("page", page))
+        }
+    }
+}
+
+/// What stands in lent memory for nodes before.
+const UNWRITTEN: u8 = 0xEE;
 
 fn nodes_of(with: u64) -> [[u8; NODE]; SLOTS] {
     let mut nodes = [[0; NODE]; SLOTS];
@@ -79,84 +160,92 @@ impl Op for DiffOp {
             Cleared(d) => flag(E::diff_cleared(d)),
             Count(d) => Out::value("count", &[E::diff_count(d)]),
             Join(a, b) => diff_out(E::diff_join(a, b)),
-            Pack(d, page) => Out::of(E::pack(d, &page.bytes()), |p| {
-                Out::value("packed", &[p.count]).with("nodes", p.nodes.as_flattened())
-            }),
+            Pack(d, page) => {
+                let page = page.bytes();
+                let said = E::pack(d, &page);
+                Out::of(said, |p| Out::value("packed", &[p.count]).with("nodes", p.nodes.as_flattened()))
+                    .reading("page", page)
+            }
             PackInto(d, page, room) => {
-                let mut nodes = vec![[0xEE; NODE]; room as usize];
-                let said = E::pack_into(d, &page.bytes(), &mut nodes);
-                Out::of(said, |count| Out::value("packed", &[count])).with("nodes", nodes.as_flattened())
+                let page = page.bytes();
+                let mut nodes = vec![[UNWRITTEN; NODE]; room as usize];
+                let said = E::pack_into(d, &page, &mut nodes);
+                Out::of(said, |count| Out::value("packed", &[count]))
+                    .with("nodes", nodes.as_flattened())
+                    .reading("page", page)
             }
             Unpack(d, with, count, page) => {
                 let mut page = page.bytes();
                 let packed = Packed { nodes: nodes_of(with), count };
                 let said = E::unpack(d, &packed, &mut page);
-                Out::of(said, |()| Out::value("done", &[])).with("page", page)
+                Out::of(said, |()| Out::value("done", &[]))
+                    .with("page", page)
+                    .reading("nodes", packed.nodes.as_flattened())
             }
         }
     }
 
-    fn original(input: &Input, _model: &Out) -> Heard {
+    fn original(input: &Input) -> Heard {
         use original::diff as o;
         match *input {
             Read(d) => match o::from_bytes(d.bytes()) {
-                Ok(Some(w)) => Heard::Answered(words_out(w)),
-                Ok(None) => Heard::Refused("reserved bits".to_string()),
-                Err(trouble) => trouble.into(),
+                Ok(Some(w)) => words_did(w).plain(),
+                Ok(None) => Did::error("reserved bits").plain(),
+                Err(trouble) => Did::of(Err(trouble), words_did).plain(),
             },
-            Bytes(d) => Heard::of(o::as_bytes(words(d)), |b| Out::value("bytes", &[]).with("bytes", b)),
-            Set(d, slot) => Heard::of(o::set_changed(words(d), slot as usize), words_out),
-            Ask(d, slot) => Heard::of(o::changed(words(d), slot as usize), flag),
-            SetCleared(d) => Heard::of(o::set_cleared(words(d)), words_out),
-            Cleared(d) => Heard::of(o::cleared(words(d)), flag),
-            Count(d) => Heard::of(o::count(words(d)), |c| Out::value("count", &[c as u64])),
-            Join(a, b) => Heard::of(o::join(words(a), words(b)), words_out),
+            Bytes(d) => Did::of(o::as_bytes(words(d)), |b| Did::value("bytes", &[]).with("bytes", b)).plain(),
+            Set(d, slot) => {
+                let did = Did::of(heard("diff set", &[slot], o::set_changed(words(d), slot as usize)), words_did);
+                let said = "assertion failed: slot_index < NODES_PER_PAGE".to_string();
+                match slot {
+                    0..=125 => did.plain(),
+                    _ => did.departs(known::SLOT_SET, Did::panic("page_diff.rs:38", said), Out::refused(3)),
+                }
+            }
+            Ask(d, slot) => {
+                let did = Did::of(o::changed(words(d), slot as usize), flag_did);
+                match slot {
+                    0..=127 => did.plain(),
+                    _ => {
+                        let wanted = Did::panic("page_diff.rs:51", outside(2, slot / 64));
+                        did.departs(known::SLOT_ASKED, wanted, Out::refused(3))
+                    }
+                }
+            }
+            SetCleared(d) => Did::of(o::set_cleared(words(d)), words_did).plain(),
+            Cleared(d) => Did::of(o::cleared(words(d)), flag_did).plain(),
+            Count(d) => Did::of(o::count(words(d)), |c| Did::value("count", &[c as u64])).plain(),
+            Join(a, b) => Did::of(o::join(words(a), words(b)), words_did).plain(),
             PackInto(_, _, room) if room != SLOTS as u64 => Heard::NotAsked,
-            Pack(d, page) | PackInto(d, page, _) => Heard::of(o::pack(words(d), &page.bytes()), |nodes| {
-                let mut table = [[0; NODE]; SLOTS];
-                let kept = nodes.len().min(SLOTS);
-                table[..kept].copy_from_slice(&nodes[..kept]);
-                Out::value("packed", &[nodes.len() as u64]).with("nodes", table.as_flattened())
-            }),
+            Pack(d, page) | PackInto(d, page, _) => {
+                let page = page.bytes();
+                let did = Did::of(
+                    heard("pack", &[words(d)[0], words(d)[1], page.len() as u64], o::pack(words(d), &page)),
+                    packed_did,
+                );
+                let Some(number) = refusal(d, page.len(), None) else { return did.plain() };
+                let out = match input {
+                    PackInto(..) => Out::refused(number).with("nodes", [UNWRITTEN; NODE * SLOTS]),
+                    _ => Out::refused(number),
+                };
+                let (how, wanted) = packed_by(d, &page);
+                did.departs(how, wanted, out)
+            }
             Unpack(d, with, count, page) => {
-                // The original takes the nodes as a slice of their count, ours as a table of 126.
-                if count > SLOTS as u64 {
+                // A list as long as the count, which an array of the original's may be.
+                if count > 1 << 12 {
                     return Heard::NotAsked;
                 }
-                let mut page = page.bytes();
-                let said = o::unpack(words(d), &nodes_of(with)[..count as usize], &mut page);
-                // What a panic leaves of the page is not compared.
-                Heard::of(said, |()| Out::value("done", &[]).with("page", page))
+                let mut nodes = nodes_of(with).to_vec();
+                nodes.resize(count as usize, [0; NODE]);
+                let before = page.bytes();
+                let mut page = before.clone();
+                let said = heard("unpack", &words(d), o::unpack(words(d), &nodes, &mut page));
+                let did = Did::of(said, |()| Did::value("done", &[])).with("page", page);
+                let Some(number) = refusal(d, before.len(), Some(count)) else { return did.plain() };
+                let (how, wanted) = unpacked_by(d, &nodes, before.clone());
+                did.departs(how, wanted, Out::refused(number).with("page", before))
             }
-        }
-    }
-
-    fn known(input: &Input, model: &Out, heard: &Heard) -> Option<&'static str> {
-        match (input, &model.said, heard) {
-            (Set(_, 126..), Said::Refused(3), Heard::Panicked(_)) => Some("diff set: a slot above 125 panics (01: 3)"),
-            (Ask(_, 128..), Said::Refused(3), Heard::Panicked(_)) => Some("diff ask: a slot above 127 panics (01: 3)"),
-            (Pack(d, _) | PackInto(d, ..) | Unpack(d, ..), Said::Refused(4), Heard::Panicked(_)) if d.cleared() => {
-                Some("pack, unpack: bit 127 panics (01: 4)")
-            }
-            (Unpack(d, _, count, _), Said::Refused(2 | 4), Heard::Panicked(_)) if *count != d.count() => {
-                Some("unpack: a wrong node count panics (01: 2, or 4 before it)")
-            }
-            (Pack(d, _) | PackInto(d, ..) | Unpack(d, ..), Said::Refused(4), Heard::Answered(_))
-                if !d.cleared() && d.marks(126) =>
-            {
-                Some("pack, unpack: bit 126 goes as bytes 4032..4063 (01: 4)")
-            }
-            (Pack(_, p) | PackInto(_, p, _) | Unpack(_, _, _, p), Said::Refused(2), Heard::Answered(_))
-                if p.len != PAGE =>
-            {
-                Some("pack, unpack: any page that reaches the slots is taken (01: 2)")
-            }
-            (Pack(_, p) | PackInto(_, p, _) | Unpack(_, _, _, p), Said::Refused(2), Heard::Panicked(_))
-                if p.len != PAGE =>
-            {
-                Some("pack, unpack: a page that ends before a slot panics (01: 2)")
-            }
-            _ => None,
         }
     }
 

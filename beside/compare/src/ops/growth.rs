@@ -1,18 +1,27 @@
 //! rehash.rs: the marker, the pending decision, growth.
 
 use crate::{
+    departures as known,
     engine::Engine,
+    faults::heard,
+    heard::{number, Did, End, Heard},
     input::{any_count, any_tags, hash_at, hash_seed, smaller_number, Bytes, Label, Table},
+    ops::{
+        audit::stored,
+        path::takes_too_long,
+        places::{file_length, wrong_length},
+    },
     rng::{mixed, Rng},
-    run::{Heard, Op, Out, Run, Said},
+    run::{page_bytes, u64_bytes, Op, Out, Run, Said},
 };
 use model::{
     growth::Grown,
     places::{length_of, MOST},
     tags::{kind, Kind},
+    PAGE,
 };
-use original::{growth as o, running::Folder};
-use std::fmt;
+use original::{growth as o, path::Map, running::Folder, Trouble};
+use std::{collections::BTreeMap, fmt};
 
 thread_local!(static FOLDER: Folder = Folder::new());
 
@@ -85,6 +94,170 @@ fn marker(old: u32, new: u32) -> Vec<u8> {
     bytes
 }
 
+/// What a pending growth does in the original, from its text.
+fn finishes(meta: u64, file: u64, old: u64, new: u64) -> Did {
+    if new <= old {
+        return Did::error(&format!("invalid rehash marker bucket counts: old={old}, new={new}"));
+    }
+    let (old_len, new_len) = match (file_length(old), file_length(new)) {
+        (Ok(old_len), Ok(new_len)) => (old_len, new_len),
+        (Err(panic), _) | (_, Err(panic)) => return panic,
+    };
+    if meta == new && file != new_len {
+        let said = "pending rehash marker says meta is updated, but ht length is";
+        return Did::error(&format!("{said} {file}; expected {new_len}"));
+    }
+    if meta == new || meta == old && file == old_len && file != new_len {
+        return Did::value("tidy", &[]);
+    }
+    if meta == old && file == new_len {
+        return Did::value("update meta", &[]);
+    }
+    let said = "pending rehash marker is inconsistent with meta/ht: meta buckets";
+    Did::error(&format!("{said}={meta}, old={old}, new={new}, ht_len={file}"))
+}
+
+/// The files beside it: the meta file's count, and whether marker and half-made table are there.
+fn finished(did: Did, count: u64, marker: bool, half_made: bool) -> Did {
+    did.with("files", u64_bytes(&[count, marker as u64, half_made as u64]))
+}
+
+/// What a growth comes to along the original's own paths.
+pub enum Ahead {
+    /// The pages of the new table that are not all zero.
+    Grows(BTreeMap<u64, Vec<u8>>),
+    /// No bucket is found for the page of an old one.
+    GivesUp(u64),
+    /// The same, after more than some tenths of a second.
+    TooLong,
+    Endless,
+}
+
+/// Walks a growth ahead, page by page, on a table that has its length.
+pub fn ahead(image: &[u8], n: u64, new_n: u64) -> Ahead {
+    let at = |n: u64, b: u64| n.div_ceil(4096) + b;
+    let mut map = Map::new(&vec![0; PAGE * new_n.div_ceil(4096) as usize], new_n as usize, hash_seed()).expect("pages");
+    let mut pages = BTreeMap::new();
+    for b in (0..n).filter(|&b| image[b as usize] >= 0x80) {
+        let page = &image[PAGE * at(n, b) as usize..][..PAGE];
+        let id: [u8; 32] = page[4064..].try_into().unwrap();
+        if takes_too_long(map.tags(), new_n, crate::input::hash_of(id)) {
+            return Ahead::TooLong;
+        }
+        match map.allocate(id) {
+            Ok(Some(to)) => pages.insert(at(new_n, to), page.to_vec()),
+            Ok(None) => return Ahead::GivesUp(b),
+            Err(Trouble::Endless) => return Ahead::Endless,
+            Err(other) => panic!("an allocation: {other:?}"),
+        };
+    }
+    pages.extend((0u64..).zip(map.tags().chunks(PAGE).map(<[u8]>::to_vec)));
+    pages.retain(|_, page| page.iter().any(|&b| b != 0));
+    Ahead::Grows(pages)
+}
+
+/// A growth of the original, as its end, the table's length and pages, and the meta file's count.
+fn grown_did(said: original::Said<()>, length: u64, pages: &[(u64, Vec<u8>)], count: u64) -> Did {
+    let files = u64_bytes(&[length, count]);
+    Did::of(said, |()| Did::value("done", &[])).with("files", files).with("pages", page_bytes(pages))
+}
+
+/// The pages of an image that are not all zero.
+fn pages_of(image: &[u8]) -> Vec<(u64, Vec<u8>)> {
+    let pages = (0u64..).zip(image.chunks(PAGE).map(<[u8]>::to_vec));
+    pages.filter(|(_, page)| page.iter().any(|&b| b != 0)).collect()
+}
+
+/// The counts up to which a growth of the original is asked: a file of some gigabytes with holes.
+const MOST_ASKED: u64 = 2 * MOST;
+
+impl Growth {
+    /// What the original does with these counts and this image, from its text and along its paths, and whether it
+    /// can be called; none where the new table would be too large.
+    fn theirs(&self, image: &[u8]) -> Option<(Did, bool)> {
+        let (n, new_n) = (self.old.n, self.new_n);
+        let stays = |end: Did| {
+            let kept = grown_did(Ok(()), image.len() as u64, &pages_of(image), n);
+            Did { end: end.end, left: kept.left }
+        };
+        if new_n == 0 {
+            return Some((stays(Did::error("hashtable bucket count must be greater than zero")), true));
+        }
+        if new_n < n {
+            return Some((stays(Did::error(&format!("cannot shrink hashtable from {n} to {new_n} buckets"))), true));
+        }
+        if new_n == n {
+            return Some((stays(Did::value("done", &[])), true));
+        }
+        match file_length(n) {
+            Ok(length) if length == image.len() as u64 => {}
+            Ok(_) => return Some((stays(wrong_length()), true)),
+            Err(panic) => return Some((stays(panic), true)),
+        }
+        if new_n > MOST_ASKED {
+            return None;
+        }
+        Some(match ahead(image, n, new_n) {
+            Ahead::Grows(pages) => {
+                let pages: Vec<(u64, Vec<u8>)> = pages.into_iter().collect();
+                (grown_did(Ok(()), 4096 * (new_n.div_ceil(4096) + new_n), &pages, new_n), true)
+            }
+            Ahead::GivesUp(b) => {
+                (stays(Did::error(&format!("failed to allocate bucket while rehashing old bucket {b}"))), true)
+            }
+            Ahead::TooLong => (stays(Did::error("failed to allocate bucket")), false),
+            Ahead::Endless => (Did::endless(), false),
+        })
+    }
+
+    fn original(&self) -> Heard {
+        if self.foreign || self.old.n > u32::MAX as u64 || self.new_n > u32::MAX as u64 {
+            return Heard::NotAsked;
+        }
+        let (n, new_n, image) = (self.old.n, self.new_n, self.old.image());
+        let Some((wanted, called)) = self.theirs(&image) else { return Heard::NotAsked };
+        let did = if called {
+            let grown = FOLDER.with(|f| o::grow(f, &image, n as u32, hash_seed(), new_n as u32));
+            let grown = heard("growth", &[n, new_n], grown);
+            grown_did(grown.said, grown.length, &grown.pages, grown.count as u64)
+        } else {
+            wanted.clone()
+        };
+        // 01: counts, shrinking, nothing to do, what is lent, a bucket.
+        let counted = |n: u64| (1..=MOST).contains(&n);
+        let new = self.new_image();
+        let lent = image.len() as u64 == 4096 * (n.div_ceil(4096) + n)
+            && new.len() as u64 == 4096 * (new_n.div_ceil(4096) + new_n)
+            && self.hashes().len() as u64 == n;
+        let zero = vec![0; new.len()];
+        let (out, how) = match &wanted.end {
+            End::Error(_) if new_n == 0 => (Out::refused(1).with("new", new), None),
+            End::Value(..) if n == 0 => (Out::refused(1).with("new", new), Some(known::GROWTH_FROM_0)),
+            _ if n == 0 => (Out::refused(1).with("new", new), Some(known::GROWTH_FROM_0_LENGTH)),
+            _ if !counted(n) || !counted(new_n) => (Out::refused(1).with("new", new), Some(known::GROWTH_ANY_COUNT)),
+            _ if new_n < n => (Out::refused(19).with("new", new), None),
+            _ if new_n == n => (Out::value("nothing to do", &[]).with("new", new), None),
+            _ if !lent => (Out::refused(2).with("new", new), None),
+            End::Value(..) => (Out::value("grown", &[]).with("new", table_of(&wanted, new.len())), None),
+            End::Endless => (Out::refused(11).with("new", zero), Some(known::GROWTH_ENDLESS)),
+            _ => (Out::refused(10).with("new", zero), None),
+        };
+        did.held_to(wanted, how, out)
+    }
+}
+
+/// The table that a growth made, from its pages.
+fn table_of(did: &Did, length: usize) -> Vec<u8> {
+    let mut table = vec![0; length];
+    let pages = did.left.iter().find(|(name, _)| *name == "pages").map_or(&[][..], |(_, bytes)| bytes);
+    for told in pages.chunks(8 + PAGE) {
+        let (pn, page) = told.split_at(8);
+        let at = PAGE * u64::from_le_bytes(pn.try_into().unwrap()) as usize;
+        table[at..at + PAGE].copy_from_slice(page);
+    }
+    table
+}
+
 impl Op for GrowthOp {
     type Input = Input;
 
@@ -103,7 +276,9 @@ impl Op for GrowthOp {
                 Out::of(E::write_marker(*old, *new), |m| Out::value("marker", &[]).with("marker", m))
             }
             ReadMarker(bytes) => {
-                Out::of(E::read_marker(&bytes.0), |(old, new)| Out::value("counts", &[old as u64, new as u64]))
+                let bytes = bytes.0.clone();
+                Out::of(E::read_marker(&bytes), |(old, new)| Out::value("counts", &[old as u64, new as u64]))
+                    .reading("marker", bytes)
             }
             Pending(meta, file, old, new) => Out::of(E::pending(*meta, *file, *old, *new), |p| match p {
                 model::growth::Pending::Tidy => Out::value("tidy", &[]),
@@ -111,23 +286,31 @@ impl Op for GrowthOp {
             }),
             Grow(g) => {
                 let mut new = g.new_image();
-                let said = E::grow(&g.old.image(), g.old.n, &mut new, g.new_n, &g.hashes());
+                let (old, hashes) = (g.old.image(), g.hashes());
+                let said = E::grow(&old, g.old.n, &mut new, g.new_n, &hashes);
                 let out = Out::of(said, |grown| match grown {
                     Grown::NothingToDo => Out::value("nothing to do", &[]),
                     Grown::Grown => Out::value("grown", &[]),
                 });
-                out.with("new", new)
+                out.with("new", new).reading("old", old).reading("hashes", u64_bytes(&hashes))
             }
         }
     }
 
-    fn original(input: &Input, model: &Out) -> Heard {
+    fn original(input: &Input) -> Heard {
         match input {
             WriteMarker(old, new) => {
-                Heard::of(o::marker_encode(*old, *new), |m| Out::value("marker", &[]).with("marker", m))
+                let said = heard("marker write", &[*old as u64, *new as u64], o::marker_encode(*old, *new));
+                let did = Did::of(said, |m| Did::value("marker", &[]).with("marker", m));
+                if new > old {
+                    return did.plain();
+                }
+                let wanted = Did::value("marker", &[]).with("marker", marker(*old, *new));
+                did.departs(known::MARKER_ANY_COUNTS, wanted, Out::refused(17))
             }
             ReadMarker(bytes) => {
-                Heard::of(o::marker_decode(&bytes.0), |(old, new)| Out::value("counts", &[old as u64, new as u64]))
+                let said = o::marker_decode(&bytes.0);
+                Did::of(said, |(old, new)| Did::value("counts", &[old as u64, new as u64])).plain()
             }
             Pending(meta, file, old, new) => {
                 let small = |x: u64| u32::try_from(x).ok();
@@ -138,59 +321,28 @@ impl Op for GrowthOp {
                     return Heard::NotAsked;
                 }
                 let said = FOLDER.with(|f| o::finish_pending(f, &marker(old, new), meta, *file));
-                match said {
-                    Ok((_, false)) => Heard::Held(Err("marker or half-made table stay".to_string())),
-                    Ok((after, true)) if after == meta => Heard::Answered(Out::value("tidy", &[])),
-                    Ok((after, true)) if after == new => Heard::Answered(Out::value("update meta", &[])),
-                    Ok((after, true)) => Heard::Held(Err(format!("meta count {after}"))),
-                    Err(trouble) => trouble.into(),
-                }
+                let said = heard("pending", &[meta as u64, old as u64, new as u64], said);
+                let done =
+                    Did::of(said.said, |()| Did::value(if said.count == meta { "tidy" } else { "update meta" }, &[]));
+                let did = finished(done, said.count as u64, said.marker, said.half_made);
+                let wanted = finishes(meta as u64, *file, old as u64, new as u64);
+                let (count, stays) = match &wanted.end {
+                    End::Value("update meta", _) => (new, false),
+                    End::Value(..) => (meta, false),
+                    _ => (meta, true),
+                };
+                let wanted = finished(wanted, count as u64, stays, stays);
+                // 01: counts, then as the original.
+                let out = match &wanted.end {
+                    _ if [meta, old, new].iter().any(|&n| n as u64 > MOST) => Out::refused(1),
+                    End::Value(name, _) => Out::value(name, &[]),
+                    End::Error(error) => Out::refused(number(error).unwrap_or(0)),
+                    _ => Out::refused(0),
+                };
+                let above = out.said == Said::Refused(1);
+                did.held_to(wanted, above.then_some(known::PENDING_ANY_COUNT), out)
             }
-            Grow(g) => {
-                let odd = g.hashes_more != 0 || g.new_longer != 0;
-                if g.foreign || odd && model.said == Said::Refused(2) || g.old.n > MOST || g.new_n > MOST {
-                    return Heard::NotAsked;
-                }
-                match model.said {
-                    Said::Refused(11) => return Heard::Endless,
-                    Said::Refused(10) if g.new_n > 4096 => return Heard::NotAsked,
-                    _ => {}
-                }
-                let image = g.old.image();
-                let said = FOLDER.with(|f| o::grow(f, &image, g.old.n as u32, hash_seed(), g.new_n as u32));
-                match said {
-                    Ok((_, count)) if count as u64 != g.new_n => Heard::Held(Err(format!("meta count {count}"))),
-                    Ok((table, _)) if g.new_n != g.old.n => {
-                        Heard::Answered(Out::value("grown", &[]).with("new", table))
-                    }
-                    Ok((table, _)) if table == image => {
-                        Heard::Answered(Out::value("nothing to do", &[]).with("new", g.new_image()))
-                    }
-                    Ok(_) => Heard::Held(Err("the table has changed".to_string())),
-                    Err(trouble) => trouble.into(),
-                }
-            }
-        }
-    }
-
-    fn known(input: &Input, model: &Out, heard: &Heard) -> Option<&'static str> {
-        match (input, &model.said, heard) {
-            (WriteMarker(..), Said::Refused(17), Heard::Answered(_)) => {
-                Some("marker write: any counts are written (01: 17)")
-            }
-            (Pending(..), Said::Refused(1), Heard::Answered(_) | Heard::Refused(_) | Heard::Panicked(_)) => {
-                Some("pending: counts have no upper limit (01: 1)")
-            }
-            (Grow(g), Said::Refused(1), Heard::Answered(_)) if g.old.n == 0 => {
-                Some("growth: from 0 buckets is accepted (01: 1)")
-            }
-            (Grow(g), Said::Refused(1), Heard::Refused(_)) if g.old.n == 0 => {
-                Some("growth: from 0 buckets, a wrong length is the error (01: 1)")
-            }
-            (Grow(..), Said::Refused(11), Heard::Endless) => {
-                Some("growth: a path with nothing to stop at never ends (01: 11)")
-            }
-            _ => None,
+            Grow(g) => g.original(),
         }
     }
 
@@ -211,8 +363,10 @@ impl Op for GrowthOp {
             }
             Grow(g) => {
                 let mut out: Vec<Input> =
-                    g.old.smaller().into_iter().map(|old| Grow(Growth { old, ..g.clone() })).collect();
-                out.extend(numbers(g.new_n).into_iter().map(|new_n| Grow(Growth { new_n, ..g.clone() })));
+                    g.old.smaller_images().into_iter().map(|old| Grow(Growth { old, ..g.clone() })).collect();
+                // No images of gigabytes: a count above the limit is lent a small one.
+                let counts = numbers(g.new_n).into_iter().filter(|&new_n| new_n < 1 << 14 || new_n > MOST);
+                out.extend(counts.map(|new_n| Grow(Growth { new_n, ..g.clone() })));
                 if g.new_longer != 0 {
                     out.push(Grow(Growth { new_longer: 0, ..g.clone() }));
                 }
@@ -246,6 +400,10 @@ fn labelled(tags: &[u8], homes: u64, each: &mut dyn FnMut(Table)) {
 }
 
 pub fn exhaustive(run: &mut Run) {
+    // A large table with many full buckets.
+    for (n, new_n) in [(4300, 4301), (10_600, 16_500)] {
+        run.case::<GrowthOp>(Grow(Growth::new(stored(&mut Rng(n), n, n / 4), new_n)));
+    }
     let counts = [0, 1, 2, 3, 4, 8, 255, 256, 65_536, 1_048_576, 1_048_577, u32::MAX - 1, u32::MAX];
     for old in counts {
         for new in counts {

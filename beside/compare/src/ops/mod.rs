@@ -5,6 +5,7 @@ pub mod diff;
 pub mod growth;
 pub mod path;
 pub mod places;
+pub mod prepare;
 pub mod read;
 pub mod replay;
 pub mod rounds;

@@ -1,18 +1,28 @@
 //! mod.rs: probing, lookup, allocation.
 
 use crate::{
+    departures as known,
     engine::Engine,
-    input::{any_count, any_tags, hash_at, hash_seed, smaller_number, Label, Table},
-    ops::tags::{all_tags, counts},
+    faults::heard,
+    heard::{outside, Did, End, Heard, NO_REMAINDER},
+    input::{any_count, any_tags, hash_at, hash_seed, smaller_number, tags_fit, Label, Table},
+    ops::{
+        places::file_length,
+        tags::{all_tags, counts, no_pages},
+    },
     rng::Rng,
-    run::{Heard, Op, Out, Run, Said},
+    run::{Op, Out, Run},
 };
 use model::{
     path::{visit, Found, Probed},
     places::MOST,
     tags::{full_tag, EMPTY},
 };
-use std::collections::BTreeMap;
+use original::path::{Ahead, Map};
+use std::{
+    collections::{BTreeMap, BTreeSet},
+    hint::black_box,
+};
 
 pub struct PathOp;
 
@@ -37,11 +47,111 @@ fn probed(p: Probed) -> Out {
     }
 }
 
-fn met(p: original::path::Probed, visit: u64) -> Probed {
+fn met(p: original::path::Probed, visit: u64) -> [u64; 3] {
     match p {
-        original::path::Probed::Empty(bucket) => Probed::Empty { bucket, visit },
-        original::path::Probed::Tombstone(bucket) => Probed::Tombstone { bucket, visit },
-        original::path::Probed::Hit(bucket) => Probed::Hit { bucket, visit },
+        original::path::Probed::Empty(bucket) => [0, bucket, visit],
+        original::path::Probed::Tombstone(bucket) => [1, bucket, visit],
+        original::path::Probed::Hit(bucket) => [2, bucket, visit],
+    }
+}
+
+fn met_did([kind, bucket, visit]: [u64; 3]) -> Did {
+    Did::value(["empty", "tombstone", "hit"][kind as usize], &[bucket, visit])
+}
+
+/// What a probe of the original comes to.
+enum Walk {
+    Stop([u64; 3]),
+    /// A bucket that the tags do not reach.
+    Outside(u64),
+    Never,
+    /// Nothing, as far as it was walked.
+    Long,
+}
+
+/// The original's probe before a visit, on any count above 0 and any tags.
+fn walked(tags: &[u8], n: u64, hash: u64, from: u64) -> Walk {
+    let k = from as u128;
+    let mut bucket = (hash as u128 + k * k.saturating_sub(1) / 2) % n as u128;
+    let (visits, none) = if n <= MOST { (2 * n, Walk::Never) } else { (1 << 16, Walk::Long) };
+    for visit in from..from + visits {
+        bucket = (bucket + visit as u128) % n as u128;
+        let b = bucket as u64;
+        match tags.get(b as usize) {
+            None => return Walk::Outside(b),
+            Some(0x00) => return Walk::Stop([0, b, visit]),
+            Some(0x7F) => return Walk::Stop([1, b, visit]),
+            Some(&tag) if tag == full_tag(hash) => return Walk::Stop([2, b, visit]),
+            _ => {}
+        }
+    }
+    none
+}
+
+fn past_tags(tags: &[u8], bucket: u64) -> Did {
+    Did::panic("bitbox/meta_map.rs:57", outside(tags.len(), bucket))
+}
+
+/// `ProbeSequence::new_raw` with no buckets.
+fn no_buckets() -> Did {
+    Did::panic("bitbox/mod.rs:718", NO_REMAINDER.to_string())
+}
+
+/// Probe after probe of the original, from the start, on tags that 01 refuses; none where one is not walked to its end.
+fn probes_on(tags: &[u8], n: u64, hash: u64, times: u64) -> Option<Result<Vec<[u64; 3]>, Did>> {
+    let mut seen = Vec::new();
+    let mut at = 0;
+    for _ in 0..times {
+        match walked(tags, n, hash, at) {
+            Walk::Stop(stop) => {
+                seen.push(stop);
+                at = stop[2] + 1;
+            }
+            Walk::Outside(b) => return Some(Err(past_tags(tags, b))),
+            Walk::Never => return Some(Err(Did::endless())),
+            Walk::Long => return None,
+        }
+    }
+    Some(Ok(seen))
+}
+
+/// An allocation on such tags, with those that it leaves.
+fn allocates(tags: &[u8], n: u64, hash: u64) -> Option<Did> {
+    let mut at = 0;
+    for _ in 1..10_000 {
+        match walked(tags, n, hash, at) {
+            Walk::Stop([2, _, visit]) => at = visit + 1,
+            Walk::Stop([_, b, _]) => {
+                let mut tags = tags.to_vec();
+                tags[b as usize] = full_tag(hash);
+                return Some(Did::value("bucket", &[b]).with("tags", tags));
+            }
+            Walk::Outside(b) => return Some(past_tags(tags, b).with("tags", tags)),
+            Walk::Never => return Some(Did::endless().with("tags", tags)),
+            Walk::Long => return None,
+        }
+    }
+    Some(Did::error(EXHAUSTED).with("tags", tags))
+}
+
+pub const EXHAUSTED: &str = "bucket exhaustion";
+
+/// A departure in what 01 refuses with 1: tags that are no pages, no buckets, and else what the original does.
+fn of_lent(did: Did, tags: &[u8], n: u64, zero: Did, wanted: Option<Did>, out: Out) -> Heard {
+    if tags.len() % 4096 != 0 {
+        let mut wanted = no_pages(tags.len());
+        wanted.left = out.bytes.clone();
+        return did.departs(known::PATH_NO_PAGES, wanted, out);
+    }
+    if n == 0 {
+        let mut wanted = zero;
+        wanted.left = out.bytes.clone();
+        return did.departs(known::PATH_NO_BUCKETS, wanted, out);
+    }
+    match wanted {
+        None => Heard::NotAsked,
+        Some(wanted) if matches!(wanted.end, End::Panic(_)) => did.departs(known::PATH_TAGS_SHORT, wanted, out),
+        Some(wanted) => did.departs(known::PATH_TAGS_TAKEN, wanted, out),
     }
 }
 
@@ -76,7 +186,10 @@ impl Op for PathOp {
 
     fn run<E: Engine>(input: &Input) -> Out {
         match input {
-            Probe(t, hash, k) => Out::of(E::probe(&t.tag_bytes(), t.n, *hash, *k), probed),
+            Probe(t, hash, k) => {
+                let tags = t.tag_bytes();
+                Out::of(E::probe(&tags, t.n, *hash, *k), probed).reading("tags", tags)
+            }
             ProbeOn(t, label, times) => {
                 let tags = t.tag_bytes();
                 let mut seen = Vec::new();
@@ -91,12 +204,18 @@ impl Op for PathOp {
                             seen.extend([kind, bucket, visit]);
                             at = visit + 1;
                         }
-                        Err(why) => return Out::refused(why),
+                        Err(why) => return Out::refused(why.0),
                     }
                 }
                 Out::value("probes", &seen)
             }
-            Lookup(t, label) => Out::of(E::lookup(&t.image(), t.n, label.hash, &label.id()), found),
+            Lookup(t, label) => {
+                let (image, mut id) = (t.image(), label.id());
+                let said = E::lookup(&image, t.n, label.hash, &id);
+                // As it stands in memory, whatever the compiler takes it to be.
+                let id = *black_box(&mut id);
+                Out::of(said, found).reading("image", image).reading("id", id)
+            }
             Allocate(t, label) => {
                 let mut tags = t.tag_bytes();
                 let said = E::allocate(&mut tags, t.n, label.hash);
@@ -105,58 +224,106 @@ impl Op for PathOp {
         }
     }
 
-    fn original(input: &Input, model: &Out) -> Heard {
+    fn original(input: &Input) -> Heard {
         use original::path as o;
-        let (Probe(t, ..) | ProbeOn(t, ..) | Lookup(t, _) | Allocate(t, _)) = input;
-        // Tags and table are always as long as they should be there; 0 buckets can be had.
-        if model.said == Said::Refused(1) && !(t.n == 0 && t.longer == 0 && !matches!(input, Lookup(..))) {
-            return Heard::NotAsked;
-        }
-        let n = t.n as usize;
         match input {
             Probe(t, hash, k) => {
-                // The original counts its visits from 0 and takes nothing mod 2n.
-                if *k > 1 << 40 {
+                let (tags, n) = (t.tag_bytes(), t.n);
+                // The original counts its visits from 0, takes nothing mod 2n and may not wrap.
+                if *k > 1 << 62 {
                     return Heard::NotAsked;
                 }
-                Heard::of(o::probe(&t.tag_bytes(), n, *hash, *k), |(p, visit)| {
-                    probed(met(p, visit - k + k % (2 * t.n)))
-                })
+                let fits = tags_fit(n, tags.len());
+                let wanted = if fits || n == 0 { Walk::Long } else { walked(&tags, n, *hash, *k) };
+                if n > MOST && matches!(wanted, Walk::Long) {
+                    return Heard::NotAsked;
+                }
+                let said = heard("probe", &[n, *k], o::probe(&tags, n as usize, *hash, *k));
+                if !fits {
+                    let wanted = match wanted {
+                        Walk::Stop(stop) => Some(met_did(stop)),
+                        Walk::Outside(b) => Some(past_tags(&tags, b)),
+                        Walk::Never => Some(Did::endless()),
+                        Walk::Long => None,
+                    };
+                    let did = Did::of(said, |(p, visit)| met_did(met(p, visit)));
+                    let zero = Did::panic("bitbox/mod.rs:729", NO_REMAINDER.to_string());
+                    return of_lent(did, &tags, n, zero, wanted, Out::refused(1));
+                }
+                let did = Did::of(said, |(p, visit)| met_did(met(p, visit - k + k % (2 * n))));
+                match did.end {
+                    End::Endless => did.departs(known::PROBE_ENDLESS, Did::endless(), Out::value("closed", &[])),
+                    _ => did.plain(),
+                }
             }
             ProbeOn(t, label, times) => {
-                Heard::of(o::probe_on(&t.tag_bytes(), n, label.id(), hash_seed(), *times as usize), |seen| {
-                    let seen: Vec<u64> = seen.into_iter().flat_map(|(p, v)| kind_of(met(p, v))).collect();
-                    Out::value("probes", &seen)
+                let (tags, n) = (t.tag_bytes(), t.n);
+                let fits = tags_fit(n, tags.len());
+                let wanted = if fits || n == 0 { None } else { probes_on(&tags, n, label.hash, *times) };
+                if n > MOST && wanted.is_none() {
+                    return Heard::NotAsked;
+                }
+                let probes = |seen: Vec<[u64; 3]>| Did::value("probes", seen.as_flattened());
+                let said = o::probe_on(&tags, n as usize, label.id(), hash_seed(), *times as usize);
+                let did = Did::of(said, |seen| probes(seen.into_iter().map(|(p, v)| met(p, v)).collect()));
+                if !fits {
+                    let wanted = wanted.map(|w| w.map_or_else(|did| did, probes));
+                    return of_lent(did, &tags, n, no_buckets(), wanted, Out::refused(1));
+                }
+                match did.end {
+                    End::Endless => did.departs(known::PROBE_ENDLESS, Did::endless(), Out::value("closed", &[])),
+                    _ => did.plain(),
+                }
+            }
+            Lookup(t, label) => {
+                let Ok(n) = u32::try_from(t.n) else { return Heard::NotAsked };
+                let image = t.image();
+                let said = heard("lookup", &[t.n], o::load(&image, n, label.id(), hash_seed()));
+                let did = Did::of(said, |found| match found {
+                    Some(b) => Did::value("bucket", &[b]),
+                    None => Did::value("absent", &[]),
+                });
+                if let Err(panic) = file_length(t.n) {
+                    return did.departs(known::LENGTH_PANICS, panic, Out::refused(1));
+                }
+                match did.end {
+                    _ if n == 0 && image.is_empty() => {
+                        did.departs(known::PATH_NO_BUCKETS, no_buckets(), Out::refused(1))
+                    }
+                    End::Endless => did.departs(known::LOOKUP_ENDLESS, Did::endless(), Out::value("closed", &[])),
+                    _ => did.plain(),
+                }
+            }
+            Allocate(t, label) => {
+                let (tags, n) = (t.tag_bytes(), t.n);
+                let fits = tags_fit(n, tags.len());
+                let wanted = if fits || n == 0 { None } else { allocates(&tags, n, label.hash) };
+                if n > MOST && wanted.is_none() {
+                    return Heard::NotAsked;
+                }
+                // What would take too long follows from its path.
+                if fits && takes_too_long(&tags, n, label.hash) {
+                    return Did::error(EXHAUSTED).with("tags", tags).plain();
+                }
+                let (said, left) = match Map::new(&tags, n as usize, hash_seed()) {
+                    Ok(mut map) => (map.allocate(label.id()), map.tags().to_vec()),
+                    Err(trouble) => (Err(trouble), tags.clone()),
+                };
+                let did = Did::of(heard("allocate", &[n], said), |given| match given {
+                    Some(b) => Did::value("bucket", &[b]),
+                    None => Did::error(EXHAUSTED),
                 })
+                .with("tags", left);
+                let refused = |number| Out::refused(number).with("tags", tags.clone());
+                match did.end {
+                    _ if !fits => of_lent(did, &tags, n, no_buckets(), wanted, refused(1)),
+                    End::Endless => {
+                        let wanted = Did::endless().with("tags", tags.clone());
+                        did.departs(known::ALLOCATE_ENDLESS, wanted, refused(11))
+                    }
+                    _ => did.plain(),
+                }
             }
-            Lookup(t, label) => Heard::of(o::load(&t.image(), n, label.id(), hash_seed()), |l| match l {
-                o::Loaded::Bucket(b) => Out::value("bucket", &[b]),
-                o::Loaded::Absent => Out::value("absent", &[]),
-                o::Loaded::Closed => Out::value("closed", &[]),
-            }),
-            Allocate(t, label) if n > 0 && takes_too_long(&t.tag_bytes(), t.n, label.hash) => Heard::NotAsked,
-            Allocate(t, label) => match o::allocate(&t.tag_bytes(), n, label.id(), hash_seed()) {
-                Ok((Some(b), tags)) => Heard::Answered(Out::value("bucket", &[b]).with("tags", tags)),
-                // A refusal leaves the tags.
-                Ok((None, tags)) if tags == t.tag_bytes() => Heard::Refused("bucket exhaustion".to_string()),
-                Ok((None, _)) => Heard::Held(Err("gave up and changed the tags".to_string())),
-                Err(trouble) => trouble.into(),
-            },
-        }
-    }
-
-    fn known(input: &Input, model: &Out, heard: &Heard) -> Option<&'static str> {
-        match (input, &model.said, heard) {
-            (Probe(..) | ProbeOn(..), Said::Value("closed", _), Heard::Endless) => {
-                Some("probe: a path with nothing to stop at never ends (01: closed)")
-            }
-            (Allocate(..), Said::Refused(11), Heard::Endless) => {
-                Some("allocate: a path with nothing to stop at never ends (01: 11)")
-            }
-            (Probe(..) | ProbeOn(..) | Allocate(..), Said::Refused(1), Heard::Panicked(_)) => {
-                Some("probe, allocate: 0 buckets panic (01: 1)")
-            }
-            _ => None,
         }
     }
 
@@ -175,7 +342,7 @@ impl Op for PathOp {
                 out
             }
             Lookup(t, l) => {
-                let mut out: Vec<Input> = t.smaller().into_iter().map(|t| Lookup(t, *l)).collect();
+                let mut out: Vec<Input> = t.smaller_images().into_iter().map(|t| Lookup(t, *l)).collect();
                 out.extend(l.smaller().into_iter().map(|l| Lookup(t.clone(), l)));
                 out
             }
@@ -188,13 +355,27 @@ impl Op for PathOp {
     }
 }
 
-/// Whether the original, that does end, takes more than some tenths of a second to give up.
+/// Whether the original gives up along this path, at its 9,999th hit, and takes more than some tenths of a second.
 pub fn takes_too_long(tags: &[u8], n: u64, hash: u64) -> bool {
-    let ahead = original::path::ahead(tags, n as usize, hash);
-    ahead.any() && ahead.allocation(n as usize) > 50_000_000
+    match original::path::ahead(tags, n as usize, hash) {
+        Ahead::Stop | Ahead::Hits(0) => false,
+        Ahead::Hits(hits) => (9_999 / hits + 1) * 2 * n > 50_000_000,
+    }
 }
 
 pub fn exhaustive(run: &mut Run) {
+    // A lookup has no limit of hits: at the end of the path of a table with many full buckets, and past it.
+    for (n, frees) in [(4300, &[2, 3][..]), (10_501, &[2]), (16_384, &[2, 3]), (20_011, &[2, 3])] {
+        let mut met = BTreeSet::new();
+        let path: Vec<u64> = (0..2 * n).map(|k| visit(n, 0, k)).filter(|b| met.insert(*b)).collect();
+        let mut t = Table::new(n, &vec![0x80; n as usize]);
+        t.labels.insert(path[path.len() - 2], Label { hash: 0, free: 2 });
+        for &free in frees {
+            run.case::<PathOp>(Lookup(t.clone(), Label { hash: 0, free }));
+        }
+        t.tags.0[path[path.len() - 1] as usize] = 0;
+        run.case::<PathOp>(Lookup(t, Label { hash: 0, free: 3 }));
+    }
     // All tables of up to four buckets over the tags that mean something, and each way to go in.
     for tags in all_tags(4) {
         let n = tags.len() as u64;
@@ -257,14 +438,6 @@ pub fn exhaustive(run: &mut Run) {
                 run.case::<PathOp>(Allocate(behind_hits(n, 0, hits, free), Label { hash: 0, free: 0 }));
             }
         }
-    }
-    // A lookup has no limit of hits.
-    for (behind, free) in [(10_100, 2), (10_100, 3), (9_998, 2), (9_999, 2)] {
-        let n = 10_501;
-        let mut t = Table::new(n, &vec![0x80; n as usize]);
-        t.labels.insert(visit(n, 0, behind), Label { hash: 0, free: 2 });
-        t.tags.0[visit(n, 0, 10_300) as usize] = 0;
-        run.case::<PathOp>(Lookup(t, Label { hash: 0, free }));
     }
     let mut crowded = vec![0x80; 10_112];
     crowded[5_836] = 0;

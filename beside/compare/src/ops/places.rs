@@ -1,11 +1,14 @@
 //! ht_file.rs: lengths and page numbers, and the length of a table that is opened.
 
 use crate::{
+    departures as known,
     engine::Engine,
+    faults::heard,
+    heard::{Did, Heard, CHECKED, FILE_LENGTH, OVERFLOW},
     input::smaller_number,
     ops::tags::counts,
     rng::Rng,
-    run::{Heard, Op, Out, Run, Said},
+    run::{Op, Out, Run},
 };
 use model::places::{length_of, MOST};
 
@@ -21,6 +24,28 @@ pub enum Input {
 }
 
 use Input::*;
+
+/// The length that the original has for any count of 32 bits: its sum of pages is of 32 bits too.
+pub fn file_length(n: u64) -> Result<u64, Did> {
+    let pages = n.div_ceil(4096) + n;
+    match u32::try_from(pages) {
+        Err(_) if CHECKED => Err(Did::panic("bitbox/ht_file.rs:38", OVERFLOW.to_string())),
+        _ => Ok(4096 * (pages as u32) as u64),
+    }
+}
+
+/// The page that the original has for any bucket.
+pub fn page_number(n: u64, bucket: u64) -> Result<u64, Did> {
+    match n.div_ceil(4096).checked_add(bucket) {
+        None if CHECKED => Err(Did::panic("bitbox/ht_file.rs:28", OVERFLOW.to_string())),
+        _ => Ok(n.div_ceil(4096).wrapping_add(bucket)),
+    }
+}
+
+/// Its error for a file of another length.
+pub fn wrong_length() -> Did {
+    Did::error(FILE_LENGTH)
+}
 
 impl Op for PlaceOp {
     type Input = Input;
@@ -44,40 +69,55 @@ impl Op for PlaceOp {
         }
     }
 
-    fn original(input: &Input, _model: &Out) -> Heard {
+    fn original(input: &Input) -> Heard {
         use original::places as o;
         let (TagPages(n) | Length(n) | PageNumber(n, _) | Open(n, _)) = *input;
         let Ok(count) = u32::try_from(n) else {
             return Heard::NotAsked;
         };
+        let taken = if n == 0 { known::NO_BUCKETS } else { known::ANY_COUNT };
+        let counted = (1..=MOST).contains(&n);
         match *input {
-            TagPages(_) => Heard::of(o::num_meta_byte_pages(count), |m| Out::value("pages", &[m as u64])),
-            Length(_) => Heard::of(o::expected_file_len(count), |l| Out::value("length", &[l])),
-            PageNumber(_, b) => Heard::of(o::data_page_index(count, b), |p| Out::value("page", &[p])),
-            Open(_, len) => Heard::of(o::open(count, len), |n| Out::value("taken", &[n as u64])),
-        }
-    }
-
-    fn known(input: &Input, model: &Out, heard: &Heard) -> Option<&'static str> {
-        match (input, &model.said, heard) {
-            (TagPages(0) | Length(0) | PageNumber(0, _) | Open(0, _), Said::Refused(1), Heard::Answered(_)) => {
-                Some("places: 0 buckets are a table of length 0 (01: 1)")
+            TagPages(_) => {
+                let did = Did::of(o::num_meta_byte_pages(count), |m| Did::value("pages", &[m as u64]));
+                if counted {
+                    return did.plain();
+                }
+                did.departs(taken, Did::value("pages", &[n.div_ceil(4096)]), Out::refused(1))
             }
-            (TagPages(n) | Length(n) | PageNumber(n, _) | Open(n, _), Said::Refused(1), Heard::Answered(_))
-                if *n > MOST =>
-            {
-                Some("places: any u32 count is taken (01: 1 above 1,048,576)")
+            Length(_) => {
+                let did =
+                    Did::of(heard("table length", &[n], o::expected_file_len(count)), |l| Did::value("length", &[l]));
+                match file_length(n) {
+                    Ok(_) if counted => did.plain(),
+                    Ok(length) if length == 4096 * (n.div_ceil(4096) + n) => {
+                        did.departs(taken, Did::value("length", &[length]), Out::refused(1))
+                    }
+                    Ok(wrapped) => did.departs(known::LENGTH_WRAPS, Did::value("length", &[wrapped]), Out::refused(1)),
+                    Err(panic) => did.departs(known::LENGTH_PANICS, panic, Out::refused(1)),
+                }
             }
-            (Length(n), Said::Refused(1), Heard::Panicked(_)) if *n >= 4_293_918_975 => {
-                Some("table length: overflows from n = 4,293,918,975 (01: 1)")
+            PageNumber(_, b) => {
+                let did =
+                    Did::of(heard("page number", &[n, b], o::data_page_index(count, b)), |p| Did::value("page", &[p]));
+                let out = Out::refused(if counted { 9 } else { 1 });
+                match page_number(n, b) {
+                    Ok(_) if counted && b < n => did.plain(),
+                    Ok(page) if page >= b => {
+                        let how = if counted { known::ANY_BUCKET } else { taken };
+                        did.departs(how, Did::value("page", &[page]), out)
+                    }
+                    Ok(wrapped) => did.departs(known::PAGE_WRAPS, Did::value("page", &[wrapped]), out),
+                    Err(panic) => did.departs(known::PAGE_PANICS, panic, out),
+                }
             }
-            (PageNumber(n, b), Said::Refused(9), Heard::Answered(_)) if b >= n => {
-                Some("page number: M+b is answered for any bucket (01: 9)")
+            Open(_, len) => {
+                let did = Did::of(o::open(count, len), |n| Did::value("taken", &[n as u64]));
+                if counted || file_length(n) != Ok(len) {
+                    return did.plain();
+                }
+                did.departs(taken, Did::value("taken", &[n]), Out::refused(1))
             }
-            (PageNumber(..), Said::Refused(1 | 9), Heard::Panicked(_)) => {
-                Some("page number: M+b overflows near 2^64 (01: 1 or 9)")
-            }
-            _ => None,
         }
     }
 

@@ -2,9 +2,11 @@
 
 use crate::{
     engine::{head_of, Engine, Head},
+    faults::heard,
+    heard::{number, Did, End, Heard},
     input::{any_diff, good_diff, smaller_number, words, Label, Log, Record},
     rng::Rng,
-    run::{Heard, Op, Out, Run},
+    run::{Op, Out, Run},
 };
 use model::{diff::Diff, reader::Entry, PAGE};
 use original::log as o;
@@ -63,30 +65,79 @@ fn head_bytes(head: model::Answer<Head>) -> Vec<u8> {
     }
 }
 
-fn entry_out(entry: &Entry, after: u64) -> Out {
-    let told = match entry {
-        Entry::End => Out::value("end", &[after]),
-        Entry::Clear { bucket } => Out::value("clear", &[*bucket, after]),
+fn entry_told(entry: &Entry, after: u64) -> (&'static str, Vec<u64>) {
+    match entry {
+        Entry::End => ("end", vec![after]),
+        Entry::Clear { bucket } => ("clear", vec![*bucket, after]),
         Entry::Update { bucket, diff, .. } => {
             let [a, b] = words(*diff);
-            Out::value("update", &[*bucket, a, b, after])
+            ("update", vec![*bucket, a, b, after])
         }
+    }
+}
+
+/// The original's next entry at a place. Where 01's reader stays, after end and after a refusal, the original's has
+/// moved on: by as much as it has read.
+fn original_next(reader: &mut o::Reader, log: &[u8], at: u64) -> Result<original::Said<(Entry, u64)>, String> {
+    let said = reader.read_entry().map(plain);
+    let moved = reader.offset() as u64;
+    let wanted = match &said {
+        Ok(Entry::End) => at + 1,
+        Ok(Entry::Clear { .. }) => at + 9,
+        Ok(Entry::Update { nodes, .. }) => at + 65 + 32 * nodes.len() as u64,
+        Err(_) => at + read_before_error(log, at),
     };
-    told.with("entry", entry_bytes(entry, after))
+    if moved != wanted {
+        return Err(format!("it stands at {moved} after the entry at {at}, where it should at {wanted}"));
+    }
+    Ok(said.map(|entry| {
+        let after = if entry == Entry::End { at } else { moved };
+        (entry, after)
+    }))
 }
 
-fn original_next(reader: &mut o::Reader, at: u64) -> original::Said<(Entry, u64)> {
-    let entry = plain(reader.read_entry()?);
-    let after = if entry == Entry::End { at } else { reader.offset() as u64 };
-    Ok((entry, after))
+/// The bytes that the original has read where it stops inside an entry: its parts that the log reaches.
+fn read_before_error(log: &[u8], at: u64) -> u64 {
+    let Some(left) = usize::try_from(at).ok().and_then(|at| log.get(at..)) else { return 0 };
+    let mut parts = vec![1];
+    match left.first() {
+        Some(3) => parts.push(8),
+        Some(4) => {
+            parts.extend([32, 16]);
+            if let Some(diff) = left.get(33..49) {
+                let d = u128::from_le_bytes(diff.try_into().unwrap());
+                if d >> 126 == 0 {
+                    parts.extend(vec![32; d.count_ones() as usize]);
+                    parts.extend([8, 8]);
+                }
+            }
+        }
+        _ => {}
+    }
+    let mut read = 0;
+    for part in parts {
+        if read + part > left.len() {
+            break;
+        }
+        read += part;
+    }
+    read as u64
 }
 
-/// The lines that `list` should write, from the original's reader.
-fn original_list(log: &[u8]) -> (String, original::Said<()>) {
+/// The lines that `list` should write, from the original's reader. It lists an error by the number that it stands for.
+fn original_list(log: &[u8]) -> Did {
+    let refused = |lines: String, at: usize, trouble: original::Trouble| {
+        let did = Did::of(Err::<(), _>(trouble), |()| Did::value("listed", &[]));
+        let number = match &did.end {
+            End::Error(error) => number(error).unwrap_or(0),
+            _ => 0,
+        };
+        did.with("lines", format!("{lines}{at} refused {number}\n"))
+    };
     let mut lines = String::new();
     let mut reader = match o::Reader::new(log) {
         Ok(reader) => reader,
-        Err(trouble) => return (lines, Err(trouble)),
+        Err(trouble) => return refused(lines, 0, trouble),
     };
     lines += &format!("0 start {}\n", reader.sync_seqn());
     loop {
@@ -96,11 +147,31 @@ fn original_list(log: &[u8]) -> (String, original::Said<()>) {
             Ok(o::Entry::Update { bucket, nodes, .. }) => lines += &format!("{at} update {bucket} {}\n", nodes.len()),
             Ok(o::Entry::End) => {
                 lines += &format!("{at} end\n");
-                return (lines, Ok(()));
+                return Did::value("listed", &[]).with("lines", lines);
             }
-            Err(trouble) => return (lines, Err(trouble)),
+            Err(trouble) => return refused(lines, at, trouble),
         }
     }
+}
+
+/// The original's reader on a log, as `new` has it; without the file where its length is one of whole pages.
+pub fn set_reader(log: &[u8]) -> original::Said<o::Reader> {
+    if log.len() % PAGE != 0 {
+        return o::Reader::new(log);
+    }
+    let mut reader = o::Reader::at(log, 0);
+    reader.read_start()?;
+    Ok(reader)
+}
+
+/// An error of the original with bytes beside it, that 01 refuses in the same way.
+fn refused(trouble: original::Trouble, name: &'static str, bytes: impl FnOnce(u8) -> Vec<u8>) -> Heard {
+    let did = Did::of(Err::<(), _>(trouble), |()| Did::value("", &[]));
+    let bytes = match &did.end {
+        End::Error(error) => number(error).map(bytes),
+        _ => None,
+    };
+    did.with(name, bytes.unwrap_or_default()).plain()
 }
 
 impl Op for ReadOp {
@@ -117,17 +188,24 @@ impl Op for ReadOp {
 
     fn run<E: Engine>(input: &Input) -> Out {
         match input {
-            Set(log) => Out::of(E::reader_set(&log.bytes()), |sync| Out::value("sync", &[sync as u64])),
+            Set(log) => {
+                let log = log.bytes();
+                Out::of(E::reader_set(&log), |sync| Out::value("sync", &[sync as u64])).reading("log", log)
+            }
             Next(log, at) => {
                 let log = log.bytes();
                 let head = head_bytes(E::reader_head(&log, *at));
-                Out::of(E::reader_next(&log, *at), |(entry, after)| entry_out(&entry, after)).with("head", head)
+                let out = Out::of(E::reader_next(&log, *at), |(entry, after)| {
+                    let (name, values) = entry_told(&entry, after);
+                    Out::value(name, &values).with("entry", entry_bytes(&entry, after))
+                });
+                out.with("head", head).reading("log", log)
             }
             Walk(log) => {
                 let log = log.bytes();
                 let sync = match E::reader_set(&log) {
                     Ok(sync) => sync,
-                    Err(why) => return Out::refused(why),
+                    Err(why) => return Out::refused(why.0).reading("log", log),
                 };
                 let mut walked = sync.to_le_bytes().to_vec();
                 let mut at = model::reader::FIRST;
@@ -138,7 +216,8 @@ impl Op for ReadOp {
                             walked.extend(head_bytes(E::reader_head(&log, at)));
                             if entry == Entry::End {
                                 let again = E::reader_next(&log, after) == Ok((Entry::End, after));
-                                return Out::value("end", &[at, again as u64]).with("walk", walked);
+                                let out = Out::value("end", &[at, again as u64]);
+                                return out.with("walk", walked).reading("log", log);
                             }
                             at = after;
                         }
@@ -146,7 +225,7 @@ impl Op for ReadOp {
                             if E::reader_head(&log, at) != Err(why) {
                                 walked.extend(b"another head");
                             }
-                            return Out::refused(why).with("walk", walked);
+                            return Out::refused(why.0).with("walk", walked).reading("log", log);
                         }
                     }
                 }
@@ -155,7 +234,7 @@ impl Op for ReadOp {
                 let lines = E::list(&log.bytes());
                 let last = lines.lines().last().unwrap_or("");
                 let out = match last.split_once(" refused ") {
-                    Some((_, number)) => Out::refused(model::Refused(number.parse().unwrap_or(0))),
+                    Some((_, number)) => Out::refused(number.parse().unwrap_or(0)),
                     None => Out::value("listed", &[]),
                 };
                 out.with("lines", lines)
@@ -163,39 +242,42 @@ impl Op for ReadOp {
         }
     }
 
-    fn original(input: &Input, model: &Out) -> Heard {
+    fn original(input: &Input) -> Heard {
         match input {
-            Set(log) => Heard::of(o::Reader::new(&log.bytes()), |r| Out::value("sync", &[r.sync_seqn() as u64])),
+            Set(log) => Did::of(o::Reader::new(&log.bytes()), |r| Did::value("sync", &[r.sync_seqn() as u64])).plain(),
             Next(log, at) => {
-                let mut reader = o::Reader::at(&log.bytes(), *at as usize);
-                Heard::of(original_next(&mut reader, *at), |(entry, after)| {
-                    entry_out(&entry, after).with("head", head_bytes(Ok(head_of(&entry, after))))
-                })
+                let log = log.bytes();
+                let mut reader = o::Reader::at(&log, *at as usize);
+                match heard("reader next", &[*at], original_next(&mut reader, &log, *at)) {
+                    Ok(Ok((entry, after))) => {
+                        let (name, values) = entry_told(&entry, after);
+                        let head = head_bytes(Ok(head_of(&entry, after)));
+                        Did::value(name, &values).with("entry", entry_bytes(&entry, after)).with("head", head).plain()
+                    }
+                    Ok(Err(trouble)) => refused(trouble, "head", |number| vec![number]),
+                    Err(said) => Heard::Held(Err(said)),
+                }
             }
             Walk(log) => {
                 let log = log.bytes();
-                // As `new` does it, without the file, whose length it has tested.
-                let mut reader = o::Reader::at(&log, 0);
-                let set = if log.len() % PAGE == 0 { reader.read_start() } else { o::Reader::new(&log).map(|_| ()) };
-                if let Err(trouble) = set {
-                    return trouble.into();
-                }
+                let mut reader = match set_reader(&log) {
+                    Ok(reader) => reader,
+                    Err(trouble) => return Did::of(Err::<(), _>(trouble), |()| Did::value("", &[])).plain(),
+                };
                 let mut walked = reader.sync_seqn().to_le_bytes().to_vec();
                 loop {
                     let at = reader.offset() as u64;
-                    match original_next(&mut reader, at) {
-                        Ok((entry, after)) => {
+                    match original_next(&mut reader, &log, at) {
+                        Ok(Ok((entry, after))) => {
                             walked.extend(entry_bytes(&entry, after));
                             walked.extend(head_bytes(Ok(head_of(&entry, after))));
                             if entry == Entry::End {
-                                return Heard::Answered(Out::value("end", &[at, 1]).with("walk", walked));
+                                return Did::value("end", &[at, 1]).with("walk", walked).plain();
                             }
                         }
                         // What was read before a refusal is compared too.
-                        Err(_) if model.bytes.first().is_none_or(|(_, walk)| *walk != walked) => {
-                            return Heard::Held(Err("other entries before the refusal".to_string()))
-                        }
-                        Err(trouble) => return trouble.into(),
+                        Ok(Err(trouble)) => return refused(trouble, "walk", |_| walked),
+                        Err(said) => return Heard::Held(Err(said)),
                     }
                 }
             }
@@ -204,22 +286,7 @@ impl Op for ReadOp {
                 if log.is_empty() || log.len() > model::list::MOST {
                     return Heard::NotAsked;
                 }
-                let (lines, said) = original_list(&log);
-                match said {
-                    Ok(()) => Heard::Answered(Out::value("listed", &[]).with("lines", lines)),
-                    Err(trouble) => {
-                        let model_lines = String::from_utf8_lossy(&model.bytes[0].1);
-                        let before: String = model_lines
-                            .split_inclusive('\n')
-                            .collect::<Vec<_>>()
-                            .split_last()
-                            .map_or(String::new(), |(_, b)| b.concat());
-                        if before != lines {
-                            return Heard::Held(Err(format!("other lines before the refusal: {lines}")));
-                        }
-                        trouble.into()
-                    }
-                }
+                original_list(&log).plain()
             }
         }
     }

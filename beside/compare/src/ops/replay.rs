@@ -1,19 +1,31 @@
 //! mod.rs: `recover`.
 
 use crate::{
+    departures as known,
     engine::Engine,
-    input::{any_count, any_tags, hash_seed, log_hashes, smaller_number, Log, Record, Table},
-    ops::read::{any_log, changed_bytes, cut_at, good_logs, kinds, lists},
+    faults::heard,
+    heard::{number, outside, Did, End, Heard},
+    input::{
+        any_count, any_tags, hash_of, hash_seed, image_fits, log_hashes, smaller_number, Label, Log, Record, Table,
+    },
+    ops::{
+        places::wrong_length,
+        read::{any_log, changed_bytes, cut_at, good_logs, kinds, lists, set_reader},
+    },
     rng::{mixed, Rng},
-    run::{Heard, Op, Out, Run, Said},
+    run::{u64_bytes, Op, Out, Run, Said},
 };
 use model::{
-    places::tag_pages_of,
-    reader::{self, Entry},
+    diff::{Diff, NODE},
     replay::{Replayed, Stepped},
+    tags::{full_tag, TOMBSTONE},
     PAGE,
 };
-use std::fmt;
+use original::{
+    log::{Entry, Reader},
+    Trouble,
+};
+use std::{collections::BTreeSet, fmt};
 
 pub struct ReplayOp;
 
@@ -29,6 +41,157 @@ pub struct Input {
     pub foreign: bool,
     /// One step at a position, instead of the whole.
     pub step: Option<u64>,
+}
+
+/// What the original says, and what it leaves of table and log.
+type Theirs = (original::Said<()>, Vec<u8>, u64);
+
+fn did_of((said, image, log): Theirs) -> Did {
+    Did::of(said, |()| Did::value("done", &[log])).with("image", image)
+}
+
+/// What `recover` does with any log, from its text.
+fn recovers(before: &[u8], n: u64, log: &[u8], sync: u32) -> Theirs {
+    let mut image = before.to_vec();
+    let (said, left) = match applied(&mut image, n, log, sync) {
+        Ok(()) => (Ok(()), 0),
+        Err(trouble) => (Err(trouble), log.len() as u64),
+    };
+    (said, image, left)
+}
+
+fn applied(image: &mut [u8], n: u64, log: &[u8], sync: u32) -> original::Said<()> {
+    if image.len() as u64 != 4096 * (n.div_ceil(4096) + n) {
+        let End::Error(said) = wrong_length().end else { unreachable!() };
+        return Err(Trouble::Error(said));
+    }
+    let mut reader = set_reader(log)?;
+    if reader.sync_seqn() != sync {
+        return Ok(());
+    }
+    let mut tags = image[..PAGE * n.div_ceil(4096) as usize].to_vec();
+    let mut changed = BTreeSet::new();
+    let panic =
+        |at: &str, len: usize, b: u64| Trouble::Panic(original::Panic { at: at.to_string(), said: outside(len, b) });
+    loop {
+        match reader.read_entry()? {
+            Entry::End => break,
+            Entry::Clear { bucket } => {
+                if bucket >= tags.len() as u64 {
+                    return Err(panic("bitbox/meta_map.rs:52", tags.len(), bucket));
+                }
+                tags[bucket as usize] = TOMBSTONE;
+                changed.insert(bucket as usize / PAGE);
+            }
+            Entry::Update { id, diff, nodes, elided, bucket } => {
+                if bucket >= tags.len() as u64 {
+                    return Err(panic("bitbox/meta_map.rs:67", tags.len(), bucket));
+                }
+                let tag = full_tag(hash_of(id));
+                if tags[bucket as usize] != tag {
+                    tags[bucket as usize] = tag;
+                    changed.insert(bucket as usize / PAGE);
+                }
+                let at = PAGE * (n.div_ceil(4096) + bucket) as usize;
+                let Some(page) = image.get_mut(at..at + PAGE) else {
+                    return Err(Trouble::Error("failed to fill whole buffer".to_string()));
+                };
+                let diff = Diff((diff[1] as u128) << 64 | diff[0] as u128);
+                for (slot, node) in diff.slots().into_iter().zip(nodes) {
+                    page[NODE * slot..NODE * (slot + 1)].copy_from_slice(&node);
+                }
+                page[4056..4064].copy_from_slice(&elided);
+                page[4064..].copy_from_slice(&id);
+            }
+        }
+    }
+    for i in changed {
+        image[PAGE * i..PAGE * (i + 1)].copy_from_slice(&tags[PAGE * i..PAGE * (i + 1)]);
+    }
+    Ok(())
+}
+
+/// What 01 answers to a log, by the original's own reader: the name of an answer, or a number.
+fn answer(n: u64, fits: bool, log: &[u8], sync: u32, hashes: usize) -> Result<&'static str, u8> {
+    if !fits {
+        return Err(1);
+    }
+    if log.is_empty() {
+        return Ok("nothing");
+    }
+    let refused = |trouble: Trouble| match trouble {
+        Trouble::Error(said) => number(&said).unwrap_or(0),
+        _ => 0,
+    };
+    let mut reader = set_reader(log).map_err(refused)?;
+    if reader.sync_seqn() != sync {
+        return Ok("stale");
+    }
+    let mut updates = 0;
+    loop {
+        match reader.read_entry().map_err(refused)? {
+            Entry::End if hashes == updates => return Ok("applied"),
+            Entry::End => return Err(2),
+            Entry::Clear { bucket } | Entry::Update { bucket, .. } if bucket >= n => return Err(9),
+            Entry::Clear { .. } => {}
+            Entry::Update { .. } => updates += 1,
+        }
+    }
+}
+
+/// The original's replay beside what 01 says of it, whose image is that of before where it refuses.
+fn judged(before: Vec<u8>, n: u64, log: &[u8], sync: u32, said: Said) -> Heard {
+    let replayed = original::replay::recover(&before, n as u32, hash_seed(), log, sync);
+    let first = log.get(6..14).filter(|_| log[5] == 3).map_or(0, |b| u64::from_le_bytes(b.try_into().unwrap()));
+    let replayed = heard("replay", &[n, first], replayed);
+    let did = did_of((replayed.said, replayed.image, replayed.log));
+    let wanted = did_of(recovers(&before, n, log, sync));
+    let accepted = matches!(said, Said::Value(..));
+    let agrees = match (&wanted.end, &said) {
+        (End::Value(..), Said::Value(..)) => true,
+        (End::Error(error), Said::Refused(n)) => number(error) == Some(*n) && wanted.left[0].1 == before,
+        // It takes no hashes.
+        (End::Value(..), Said::Refused(2)) => true,
+        _ => false,
+    };
+    if agrees {
+        let image = if accepted { wanted.left[0].1.clone() } else { before };
+        return did.held_to(wanted, None, Out::said(said).with("image", image));
+    }
+    let how = match (&wanted.end, &said) {
+        _ if n == 0 => known::REPLAY_NO_BUCKETS,
+        (_, Said::Value(..)) => known::REPLAY_EMPTY,
+        (End::Panic(_), _) => known::REPLAY_PAST,
+        (End::Error(error), Said::Refused(refused)) if number(error) == Some(*refused) => known::REPLAY_WRITTEN,
+        _ => known::REPLAY_PADDING,
+    };
+    did.departs(how, wanted, Out::said(said).with("image", before))
+}
+
+/// One entry, as a log of its own.
+fn step(input: &Input, at: u64) -> Heard {
+    let (before, n, log) = (input.table.image(), input.table.n, input.log.bytes());
+    let mut reader = Reader::at(&log, at as usize);
+    let read = if image_fits(n, before.len()) { reader.read_entry() } else { Ok(Entry::End) };
+    let (entry, next) = match read {
+        Ok(entry) => (entry, reader.offset() as u64),
+        // The reader's error; nothing is applied.
+        Err(trouble) => return Did::of(Err::<(), _>(trouble), |()| Did::value("", &[])).with("image", before).plain(),
+    };
+    let mut alone = vec![1, 0, 0, 0, 0];
+    let said = match entry {
+        _ if !image_fits(n, before.len()) => Said::Refused(1),
+        Entry::End => Said::Value("end", vec![]),
+        Entry::Clear { bucket } | Entry::Update { bucket, .. } if bucket >= n => Said::Refused(9),
+        Entry::Clear { .. } => Said::Value("cleared", vec![next]),
+        Entry::Update { .. } => Said::Value("updated", vec![next]),
+    };
+    if entry != Entry::End {
+        alone.extend(&log[at as usize..next as usize]);
+    }
+    alone.push(2);
+    alone.resize(alone.len().next_multiple_of(PAGE), 0);
+    judged(before, n, &alone, 0, said)
 }
 
 impl fmt::Debug for Input {
@@ -61,6 +224,14 @@ impl Input {
         }
         hashes
     }
+
+    /// The hash that a step is lent: that of an update's id.
+    fn hash_at(&self, log: &[u8], at: u64) -> u64 {
+        match model::reader::next(log, at) {
+            Ok((model::reader::Entry::Update { id, .. }, _)) if !self.foreign => hash_of(id),
+            _ => mixed(at),
+        }
+    }
 }
 
 impl Op for ReplayOp {
@@ -76,9 +247,10 @@ impl Op for ReplayOp {
     fn run<E: Engine>(input: &Input) -> Out {
         let mut image = input.table.image();
         let log = input.log.bytes();
+        let hashes = input.hashes(&log);
         let out = match input.step {
             None => {
-                let said = E::replay(&mut image, input.table.n, &log, input.sync, &input.hashes(&log));
+                let said = E::replay(&mut image, input.table.n, &log, input.sync, &hashes);
                 Out::of(said, |r| match r {
                     Replayed::Nothing => Out::value("nothing", &[]),
                     Replayed::Stale => Out::value("stale", &[]),
@@ -86,7 +258,7 @@ impl Op for ReplayOp {
                 })
             }
             Some(at) => {
-                let said = E::replay_step(&mut image, input.table.n, &log, at, mixed(at));
+                let said = E::replay_step(&mut image, input.table.n, &log, at, input.hash_at(&log, at));
                 Out::of(said, |s| match s {
                     Stepped::Cleared { next } => Out::value("cleared", &[next]),
                     Stepped::Updated { next } => Out::value("updated", &[next]),
@@ -94,63 +266,29 @@ impl Op for ReplayOp {
                 })
             }
         };
-        out.with("image", image)
+        out.with("image", image).reading("log", log).reading("hashes", u64_bytes(&hashes))
     }
 
-    fn original(input: &Input, model: &Out) -> Heard {
-        let Ok(n) = u32::try_from(input.table.n) else {
-            return Heard::NotAsked;
-        };
-        if input.step.is_some() || input.foreign || (input.hashes_more != 0 && model.said == Said::Refused(2)) {
-            return Heard::NotAsked;
-        }
-        // A count above the limit is lent a table of one bucket here.
-        if input.table.n > model::places::MOST {
-            return Heard::NotAsked;
-        }
-        let before = input.table.image();
-        let replayed = original::replay::recover(&before, n, hash_seed(), &input.log.bytes(), input.sync);
-        match (replayed.said, &model.said) {
-            // It does not say whether it applied a log or found it stale.
-            (Ok(()), Said::Value(name, values)) => {
-                Heard::Answered(Out::value(name, values).with("image", replayed.image))
-            }
-            (Ok(()), _) => Heard::Answered(Out::value("done", &[]).with("image", replayed.image)),
-            (Err(original::Trouble::Error(said)), _) if replayed.image != before => {
-                Heard::Held(Err(format!("error '{said}', and the image has changed")))
-            }
-            (Err(trouble), _) => trouble.into(),
-        }
-    }
-
-    fn known(input: &Input, model: &Out, heard: &Heard) -> Option<&'static str> {
+    fn original(input: &Input) -> Heard {
         let n = input.table.n;
-        let bad = || first_outside(&input.log.bytes(), n);
-        let padded = PAGE as u64 * tag_pages_of(n);
-        match (&model.said, heard) {
-            (Said::Value("nothing", _), Heard::Refused(_)) => {
-                Some("replay: an empty log is an error of `recover` itself (01: nothing)")
-            }
-            (Said::Refused(9), Heard::Answered(_) | Heard::Refused(_) | Heard::Held(_) | Heard::Panicked(_)) if matches!(bad(), Some(Entry::Clear { bucket }) if bucket < padded) => {
-                Some("replay: a clear in the padding is done (01: 9)")
-            }
-            (Said::Refused(9), Heard::Panicked(_)) if matches!(bad(), Some(Entry::Clear { bucket } | Entry::Update { bucket, .. }) if bucket >= padded) => {
-                Some("replay: a bucket at or above the padded length panics (01: 9)")
-            }
-            (Said::Refused(number), Heard::Held(Err(said)))
-                if said.ends_with("and the image has changed") && crate::run::numbers(said).contains(number) =>
-            {
-                Some("replay: refused, and pages of earlier updates are written (01: unchanged)")
-            }
-            (Said::Refused(1), _) if n == 0 => Some("replay: 0 buckets are a table of length 0 (01: 1)"),
-            _ => None,
+        if n > u32::MAX as u64 || input.foreign {
+            return Heard::NotAsked;
         }
+        if let Some(at) = input.step {
+            return step(input, at);
+        }
+        let (before, log) = (input.table.image(), input.log.bytes());
+        let said = match answer(n, image_fits(n, before.len()), &log, input.sync, input.hashes(&log).len()) {
+            Ok(name) => Said::Value(name, vec![]),
+            Err(number) => Said::Refused(number),
+        };
+        judged(before, n, &log, input.sync, said)
     }
 
     fn smaller(input: &Input) -> Vec<Input> {
         let mut out: Vec<Input> = input.log.smaller().into_iter().map(|log| Input { log, ..input.clone() }).collect();
         out.extend(input.log.smaller().into_iter().map(|log| Input { sync: log.sync, log, ..input.clone() }));
-        out.extend(input.table.smaller().into_iter().map(|table| Input { table, ..input.clone() }));
+        out.extend(input.table.smaller_images().into_iter().map(|table| Input { table, ..input.clone() }));
         if input.hashes_more != 0 {
             out.push(Input { hashes_more: 0, ..input.clone() });
         }
@@ -167,20 +305,30 @@ impl Op for ReplayOp {
     }
 }
 
-/// The first entry with a bucket at or above n.
-fn first_outside(log: &[u8], n: u64) -> Option<Entry> {
-    let mut at = reader::FIRST;
-    loop {
-        let (entry, next) = reader::next(log, at).ok()?;
-        match entry {
-            Entry::End => return None,
-            Entry::Clear { bucket } | Entry::Update { bucket, .. } if bucket >= n => return Some(entry),
-            _ => at = next,
-        }
+/// A log for a large table: updates and clears from one end to the other.
+fn long_log(n: u64) -> Log {
+    let mut log = Log::new(7, &[]);
+    for i in 0..60 {
+        let bucket = if i == 59 { n - 1 } else { i * (n / 59) };
+        log.records.push(match i % 3 {
+            0 => Record::Clear(bucket),
+            _ => {
+                let label = Label { hash: mixed(i), free: i };
+                Record::Update { label, diff: Diff(1 << (i + 60) | 1 << i | 1 << 125), with: i, bucket }
+            }
+        });
     }
+    log.records.push(Record::End);
+    log
 }
 
 pub fn exhaustive(run: &mut Run) {
+    // Large tables with many full buckets.
+    for n in [4300, 10_600, 16_500] {
+        let mut tags = vec![0; n as usize];
+        crate::input::fill(&mut tags, n);
+        run.case::<ReplayOp>(Input::new(Table::new(n, &tags), long_log(n)));
+    }
     let table = |n: u64| Table { with: 11, ..Table::new(n, &[0x80, 0x7F, 0x01, 0x00]) };
     // All logs of up to two records on tables of one to four buckets, of three on one of two.
     for n in 1..=4 {

@@ -3,20 +3,27 @@
 
 use crate::{
     engine::{Engine, Model},
+    faults::Bent,
+    heard::{number, Heard},
     input::{fill, good_diff, hash_at, hash_of, hash_seed, log_hashes, smaller_diff, smaller_number, words, Label},
+    ops::{growth, prepare::foreseen},
     rng::{mixed, Rng},
-    run::{Heard, Op, Out, Run},
+    run::{Op, Out, Run},
 };
 use model::{
     diff::{Diff, NODE},
     growth::Grown,
     path::Found,
     places::{length_of, page_of, tag_pages_of, tags_of, ELIDED_AT, ID_AT},
+    replay::Replayed,
     sync::{Change, Lent, Place, Synced, UNSET},
     writer::Writer,
-    PAGE,
+    Answer, Refused, PAGE,
 };
-use original::running::{written, Cut, Running};
+use original::{
+    running::{written, Cut, Running},
+    Trouble,
+};
 
 pub struct RoundsOp;
 
@@ -113,7 +120,7 @@ fn play<E: Engine>(input: &Input, mut store: Option<Running>) -> (String, Result
     (told, Ok(()))
 }
 
-fn trouble(t: original::Trouble) -> String {
+fn trouble(t: Trouble) -> String {
     format!("{t:?}")
 }
 
@@ -156,14 +163,25 @@ fn sync<E: Engine>(
     }
 
     let number = world.sync + 1;
+    let mut store = store;
+    let room = (records.len() * 4097 + 6).next_multiple_of(PAGE);
+    let ahead = store.as_ref().map(|_| foreseen(world.n, &world.tags, &cells, &records, &pages, room as u64));
     let mut tags = world.tags.clone();
     let mut marks = vec![0xAA; tag_pages_of(world.n) as usize];
-    let mut log = vec![0xEE; (records.len() * 4097 + 6).next_multiple_of(PAGE)];
+    let mut log = vec![0xEE; room];
     let mut new_cells = cells.clone();
     let mut writer = Writer::Fresh;
     let mut lent = Lent { n: world.n, tags: &mut tags, cells: &mut new_cells, marks: &mut marks, log: &mut log };
     let said = E::sync(&mut lent, &mut writer, number, &records, &pages);
     *told += &format!("{said:?}");
+    let refused = match said {
+        Synced::Done { .. } => None,
+        Synced::Refused(why) => Some((u64::MAX, why.0)),
+        Synced::RefusedAt { change, why } => Some((change, why.0)),
+    };
+    if let Some(ahead) = ahead.filter(|ahead| *ahead != refused) {
+        return Err(format!("by its own path it is refused at {ahead:?}"));
+    }
     let Synced::Done { occupied, length } = said else {
         // The service would stop here; it goes on from the table as it was.
         return Ok(());
@@ -187,7 +205,6 @@ fn sync<E: Engine>(
         }
     }
 
-    let mut store = store;
     if let Some(store) = store.as_deref_mut() {
         let changes: Vec<original::sync::Change> = records
             .iter()
@@ -237,10 +254,14 @@ fn sync<E: Engine>(
             return Err("another table when the power was cut".to_string());
         }
     }
+    let wanted: Answer<Replayed> = Ok(if *cut == Cut::BeforeMeta { Replayed::Stale } else { Replayed::Applied });
     let said = E::replay(&mut world.image, world.n, &log, world.sync, &log_hashes(&log));
     *told += &format!(" {said:?}");
     if let Some(store) = store.as_deref_mut() {
         store.open().map_err(trouble)?;
+        if said != wanted {
+            return Err(format!("the log is {wanted:?}"));
+        }
     }
     // And cut again while it is replayed: any bytes are of before, the others of after.
     if let (Some(bits), Cut::Among(_)) = (again, cut) {
@@ -268,14 +289,11 @@ fn look<E: Engine>(world: &World, store: Option<&Running>, label: Label, told: &
     let said = E::lookup(&world.image, world.n, label.hash, &label.id());
     *told += &format!("{said:?}");
     let Some(store) = store else { return Ok(()) };
-    let ahead = original::path::ahead(&world.tags, world.n as usize, label.hash);
-    if !ahead.empty && ahead.hits == 0 {
-        return if said == Ok(Found::Closed) { Ok(()) } else { Err("the path is closed".to_string()) };
-    }
-    let heard = match store.load(label.id()).map_err(trouble)? {
-        original::path::Loaded::Bucket(b) => Found::Bucket(b),
-        original::path::Loaded::Absent => Found::Absent,
-        original::path::Loaded::Closed => Found::Closed,
+    let heard = match store.load(label.id()) {
+        Ok(Some(b)) => Found::Bucket(b),
+        Ok(None) => Found::Absent,
+        Err(Trouble::Endless) => Found::Closed,
+        Err(other) => return Err(trouble(other)),
     };
     if said == Ok(heard) {
         Ok(())
@@ -294,11 +312,18 @@ fn grow<E: Engine>(
     let said = E::grow(&world.image, world.n, &mut new, new_n, &world.hashes());
     *told += &format!("{said:?}");
     if let Some(store) = store {
-        if said != Err(model::Refused(11)) {
-            let heard = store.grow(new_n as u32);
-            if heard.is_ok() != said.is_ok() {
-                return Err(format!("{heard:?}"));
-            }
+        // Called where its own paths, walked ahead, come to an end.
+        let endless = new_n > world.n && matches!(growth::ahead(&world.image, world.n, new_n), growth::Ahead::Endless);
+        let heard = if endless { Err(Trouble::Endless) } else { store.grow(new_n as u32) };
+        let wanted = match &heard {
+            Ok(()) if new_n == world.n => Some(Ok(Grown::NothingToDo)),
+            Ok(()) => Some(Ok(Grown::Grown)),
+            Err(Trouble::Error(error)) => number(error).map(|number| Err(Refused(number))),
+            Err(Trouble::Endless) => Some(Err(Refused(11))),
+            Err(Trouble::Panic(_)) => None,
+        };
+        if wanted != Some(said) {
+            return Err(format!("{heard:?}"));
         }
     }
     if said == Ok(Grown::Grown) {
@@ -315,7 +340,7 @@ fn audit<E: Engine>(world: &World, store: Option<&mut Running>, told: &mut Strin
     let Some(store) = store else { return Ok(()) };
     match (store.audit(), said) {
         (Ok(a), Ok(b)) if (a.capacity as u64, a.occupied as u64, a.rate) == (b.capacity, b.occupied, b.rate) => Ok(()),
-        (Err(original::Trouble::Error(e)), Err(why)) if crate::run::numbers(&e).contains(&why.0) => Ok(()),
+        (Err(Trouble::Error(e)), Err(why)) if number(&e) == Some(why.0) => Ok(()),
         (heard, _) => Err(format!("{heard:?}")),
     }
 }
@@ -331,11 +356,11 @@ impl Op for RoundsOp {
         Out::value("acts", &[input.acts.len() as u64]).with("answers", play::<E>(input, None).0)
     }
 
-    fn original(input: &Input, _model: &Out) -> Heard {
-        match Running::create(input.n as u32, *hash_seed()) {
-            Ok(store) => Heard::Held(play::<Model>(input, Some(store)).1),
-            Err(trouble) => trouble.into(),
-        }
+    fn original(input: &Input) -> Heard {
+        Heard::Held(match Running::create(input.n as u32, *hash_seed()) {
+            Ok(store) => play::<Bent<Model>>(input, Some(store)).1,
+            Err(other) => Err(trouble(other)),
+        })
     }
 
     fn notes(_input: &Input, model: &Out) -> Vec<&'static str> {

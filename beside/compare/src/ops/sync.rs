@@ -1,27 +1,25 @@
 //! mod.rs: `prepare_sync`, as a whole and change by change.
 
 use crate::{
+    departures as known,
     engine::Engine,
+    heard::{Did, End, Heard},
     input::{
-        any_diff, any_tags, fill, good_diff, hash_at, hash_seed, smaller_diff, smaller_number, words, Filler, Label,
-        Table,
+        any_diff, any_tags, fill, good_diff, hash_at, smaller_diff, smaller_number, tags_fit, Filler, Label, Table,
     },
+    ops::prepare::{asked, departure, Stop, Theirs},
     rng::Rng,
-    run::{Heard, Op, Out, Run, Said},
+    run::{u64_bytes, Op, Out, Run, Said},
 };
 use model::{
     diff::Diff,
     places::tag_pages_of,
-    reader::{self, Entry},
     sync::{Change, Lent, Place, State, Synced, UNSET},
-    tags::{full_count, full_tag, kind, Kind},
+    tags::{full_tag, kind, Kind},
     writer::Writer,
     PAGE,
 };
-use std::{
-    collections::{BTreeMap, BTreeSet},
-    fmt,
-};
+use std::{collections::BTreeMap, fmt};
 
 pub struct SyncOp;
 
@@ -100,11 +98,17 @@ impl Input {
             .collect()
     }
 
-    fn page_bytes(&self) -> Vec<u8> {
+    /// A page for each change.
+    fn exact_pages(&self) -> Vec<u8> {
         let mut pages = vec![0; PAGE * self.changes.len()];
         for (j, page) in pages.chunks_mut(PAGE).enumerate() {
             fill(page, if self.pages == 0 { 0 } else { self.pages + j as u64 });
         }
+        pages
+    }
+
+    fn page_bytes(&self) -> Vec<u8> {
+        let mut pages = self.exact_pages();
         let len = (pages.len() as i64 + self.pages_longer).max(0) as usize;
         pages.resize(len, 0);
         pages
@@ -116,10 +120,6 @@ impl Input {
     }
 }
 
-fn u64_bytes(of: &[u64]) -> Vec<u8> {
-    of.iter().flat_map(|x| x.to_le_bytes()).collect()
-}
-
 fn writer_bytes(w: Writer) -> Vec<u8> {
     u64_bytes(&match w {
         Writer::Fresh => [0, 0],
@@ -128,13 +128,168 @@ fn writer_bytes(w: Writer) -> Vec<u8> {
     })
 }
 
-const NOT_MOVED: &str = "gives up, and occupied is not the number of full tags";
+/// What a sync leaves: tags, cells, the tag pages that it marked, and its records at a place of the log.
+fn left(input: &Input, said: Said, theirs: &Theirs, at: usize, records: &[u8], w: Writer) -> Out {
+    let mut marks = input.marks();
+    if input.step.is_none() {
+        marks.fill(0);
+    }
+    theirs.marked.iter().for_each(|&i| marks[i as usize] = 1);
+    let mut log = input.log.bytes();
+    log[at..at + records.len()].copy_from_slice(records);
+    Out::said(said)
+        .with("tags", theirs.tags())
+        .with("cells", u64_bytes(&theirs.cells))
+        .with("marks", marks)
+        .with("log", log)
+        .with("writer", writer_bytes(w))
+}
 
-// The places of an Out's bytes.
-const TAGS: usize = 0;
-const CELLS: usize = 1;
-const MARKS: usize = 2;
-const LOG: usize = 3;
+/// A refusal that leaves all as it was.
+fn untouched(input: &Input, number: u8) -> Out {
+    Out::refused(number)
+        .with("tags", input.table.tag_bytes())
+        .with("cells", u64_bytes(&input.cells))
+        .with("marks", input.marks())
+        .with("log", input.log.bytes())
+        .with("writer", writer_bytes(input.writer))
+}
+
+/// The first of some changes that 01 refuses, its number and how the original stops there, if it does.
+type Refusal = (usize, u8, Option<Stop>);
+
+/// The number that 01 refuses with where the original finds no bucket.
+fn no_bucket(stop: &Stop) -> u8 {
+    match stop {
+        Stop::Endless => 11,
+        _ => 10,
+    }
+}
+
+/// What the original does with changes that 01 does not come to: it refuses the whole with a number.
+fn refused_whole(input: &Input, number: u8) -> Heard {
+    let (n, tags, changes, pages) = (input.table.n, input.table.tag_bytes(), input.changes(), input.exact_pages());
+    // Up to the change in which it stops, and no further.
+    let (wanted, taken) = match Theirs::new(n, &tags, &input.cells, input.number) {
+        Err(lost) => (lost, 0),
+        Ok(mut theirs) => {
+            let mut each = changes.iter().zip(pages.chunks(PAGE)).enumerate();
+            match each.find_map(|(j, (c, page))| theirs.step(c, page).err().map(|stop| (j, stop))) {
+                Some((_, Stop::NoCell | Stop::TooLong)) => return Heard::NotAsked,
+                Some((j, stop)) => (theirs.stopped(&stop), j + 1),
+                None => (theirs.ended(), changes.len()),
+            }
+        }
+    };
+    let did = match wanted.end {
+        End::Endless => Did::endless(),
+        _ => asked(n, &tags, input.number, &changes[..taken], &pages, &input.cells),
+    };
+    let how = match (number, &wanted.end) {
+        (1, End::Panic(_)) => Some(known::SYNC_TABLE_PANICS),
+        (1, _) => Some(known::SYNC_TABLE_TAKEN),
+        (13, _) => Some(known::SYNC_GROWS),
+        // It is lent no marks, its pages come one by one, and a sync of one change begins by itself.
+        _ => None,
+    };
+    did.held_to(wanted, how, untouched(input, number))
+}
+
+/// A whole sync: the original takes the changes before the one that 01 refuses, and then that one too.
+fn whole(input: &Input) -> Heard {
+    let (n, tags, changes, pages) = (input.table.n, input.table.tag_bytes(), input.changes(), input.exact_pages());
+    let room = (input.log.len / PAGE * PAGE) as u64;
+    if room < PAGE as u64 {
+        return refused_whole(input, 13);
+    }
+    let mut theirs = match Theirs::new(n, &tags, &input.cells, input.number) {
+        Ok(theirs) => theirs,
+        Err(lost) => return Heard::Otherwise { did: lost, wanted: "a table that fits".to_string() },
+    };
+    let mut refused: Option<Refusal> = None;
+    let mut before = None;
+    for (j, (c, page)) in changes.iter().zip(pages.chunks(PAGE)).enumerate() {
+        let number = theirs.refusal(c, theirs.log.len() as u64, room);
+        if let Some(number) = number {
+            before = Some((theirs.ended(), out_of(input, &theirs, Some((j, number)))));
+            refused = Some((j, number, theirs.step(c, page).err()));
+            break;
+        }
+        if let Err(stop) = theirs.step(c, page) {
+            refused = Some((j, no_bucket(&stop), Some(stop)));
+            break;
+        }
+    }
+    let j = refused.as_ref().map_or(changes.len(), |(j, ..)| *j);
+    let at = refused.as_ref().map(|(j, number, _)| (*j, *number));
+    let (wanted, out) = before.unwrap_or_else(|| (theirs.ended(), out_of(input, &theirs, at)));
+    let did = asked(n, &tags, input.number, &changes[..j], &pages, &input.cells);
+    // With debug assertions one bucket may not be updated twice.
+    let twice = matches!(wanted.end, End::Panic(_)).then_some(known::SYNC_TWICE);
+    let (number, stop) = match refused {
+        Some((_, number, stop)) if did == wanted && !matches!(stop, Some(Stop::NoCell)) => (number, stop),
+        _ => return did.held_to(wanted, twice, out),
+    };
+    // And the change that 01 refuses.
+    let wanted = stop.as_ref().map_or_else(|| theirs.ended(), |stop| theirs.stopped(stop));
+    let did = match stop {
+        Some(Stop::Endless) => Did::endless(),
+        Some(Stop::TooLong) => wanted.clone(),
+        _ => asked(n, &tags, input.number, &changes[..=j], &pages, &input.cells),
+    };
+    did.held_to(wanted, departure(number, &changes[j], stop.as_ref(), theirs.moved).or(twice), out)
+}
+
+/// What 01 has to answer and leave, by the original's changes so far.
+fn out_of(input: &Input, theirs: &Theirs, refused: Option<(usize, u8)>) -> Out {
+    match refused {
+        Some((j, number)) => left(input, Said::RefusedAt(j as u64, number), theirs, 0, &theirs.log, Writer::Fresh),
+        None => {
+            let mut log = theirs.log.clone();
+            log.push(2);
+            log.resize(log.len().next_multiple_of(PAGE), 0);
+            let length = log.len() as u64;
+            let said = Said::Value("synced", vec![theirs.full(), length]);
+            left(input, said, theirs, 0, &log, Writer::Finished(length))
+        }
+    }
+}
+
+/// One step: a sync of the original of one change, whose record stands in the log where the writer is.
+fn step(input: &Input, occupied: u64, at: u64) -> Heard {
+    let (n, tags, pages) = (input.table.n, input.table.tag_bytes(), input.exact_pages());
+    let change = &input.changes()[..1];
+    let room = (input.log.len / PAGE * PAGE) as u64;
+    let mut theirs = match Theirs::new(n, &tags, &input.cells, input.number) {
+        Ok(theirs) => theirs,
+        Err(lost) => return Heard::Otherwise { did: lost, wanted: "a table that fits".to_string() },
+    };
+    let number = theirs.refusal(&change[0], at, room);
+    let (number, bucket, stop) = match (number, theirs.step(&change[0], &pages[..PAGE])) {
+        (number, Ok(bucket)) => (number, bucket, None),
+        (number, Err(stop)) => (Some(number.unwrap_or(no_bucket(&stop))), 0, Some(stop)),
+    };
+    let wanted = stop.as_ref().map_or_else(|| theirs.ended(), |stop| theirs.stopped(stop));
+    let did = match stop {
+        Some(Stop::NoCell) => return Heard::NotAsked,
+        Some(Stop::Endless) => Did::endless(),
+        Some(Stop::TooLong) => wanted.clone(),
+        _ => asked(n, &tags, input.number, change, &pages, &input.cells),
+    };
+    if let Some(number) = number {
+        return did.held_to(wanted, departure(number, &change[0], stop.as_ref(), 0), untouched(input, number));
+    }
+    // The count that is lent moves as the original's own does, and stays within its type.
+    let occupied = match theirs.moved {
+        -1 => occupied.saturating_sub(1),
+        moved => occupied.saturating_add(moved as u64),
+    };
+    let page = original::places::data_page_index(n as u32, bucket).unwrap_or(u64::MAX);
+    let said = Said::Value("step", vec![bucket, page, occupied]);
+    let records = &theirs.log[5..];
+    let out = left(input, said, &theirs, at as usize, records, Writer::Open(at + records.len() as u64));
+    did.held_to(wanted, None, out)
+}
 
 impl Op for SyncOp {
     type Input = Input;
@@ -158,8 +313,8 @@ impl Op for SyncOp {
         let out = match input.step {
             None => match E::sync(&mut lent, &mut writer, input.number, &changes, &pages) {
                 Synced::Done { occupied, length } => Out::value("synced", &[occupied, length]),
-                Synced::Refused(why) => Out::refused(why),
-                Synced::RefusedAt { change, why } => Out { said: Said::RefusedAt(change, why.0), bytes: vec![] },
+                Synced::Refused(why) => Out::refused(why.0),
+                Synced::RefusedAt { change, why } => Out::said(Said::RefusedAt(change, why.0)),
             },
             Some(occupied) => {
                 let Some(change) = changes.first() else { return Out::value("no change", &[]) };
@@ -174,135 +329,31 @@ impl Op for SyncOp {
             .with("marks", marks)
             .with("log", log)
             .with("writer", writer_bytes(writer))
+            .reading("pages", pages)
     }
 
-    fn original(input: &Input, model: &Out) -> Heard {
-        if input.step.is_some() {
+    fn original(input: &Input) -> Heard {
+        let n = input.table.n;
+        if n > u32::MAX as u64 || input.step.is_some() && input.changes.is_empty() {
             return Heard::NotAsked;
         }
-        // How many changes the original is asked. It gets those that 01 accepts, and the next one only
-        // where it gives up itself.
-        let (asked, gives_up) = match model.said {
-            Said::Value(..) => (input.changes.len(), false),
-            Said::RefusedAt(j, 10) if input.table.n <= 4096 => (j as usize + 1, true),
-            Said::RefusedAt(j, _) => (j as usize, false),
-            Said::Refused(_) => return Heard::NotAsked,
-        };
-        let n = input.table.n;
-        let pages = input.page_bytes();
-        let changes: Vec<original::sync::Change> = input.changes[..asked]
-            .iter()
-            .zip(pages.chunks(PAGE))
-            .map(|(c, page)| original::sync::Change {
-                id: c.label.id(),
-                diff: words(c.diff),
-                place: match c.place {
-                    Place::Known(b) => original::sync::Place::Known(b),
-                    Place::Fresh => original::sync::Place::Fresh,
-                    Place::Cell(i) => original::sync::Place::Cell(i as usize),
-                },
-                page,
-            })
-            .collect();
-        let before = input.table.tag_bytes();
-        let (said, left) =
-            original::sync::prepare(n as usize, hash_seed(), &before, input.number, &changes, &input.cells);
-
-        let mut held = Vec::new();
-        if left.tags != model.bytes[TAGS].1 {
-            held.push("other tags".to_string());
-        }
-        if u64_bytes(&left.cells) != model.bytes[CELLS].1 {
-            held.push("other cells".to_string());
-        }
-        let prepared = match said {
-            Err(original::Trouble::Error(_)) if held.is_empty() && Ok(left.occupied) != full_count(&left.tags, n) => {
-                return Heard::Held(Err(NOT_MOVED.to_string()))
-            }
-            Err(trouble) if held.is_empty() => return trouble.into(),
-            Err(trouble) => return Heard::Held(Err(format!("{trouble:?}, {}", held.join(", ")))),
-            Ok(_) if gives_up => return Heard::Held(Err("a bucket was given".to_string())),
-            Ok(prepared) => prepared,
-        };
-
-        // The records; the end and the zeros after it where 01 finished too.
-        let log = &model.bytes[LOG].1;
-        let end = end_of(&prepared.log);
-        if let Said::Value(_, values) = &model.said {
-            let length = values[1] as usize;
-            if log[..length] != prepared.log[..] {
-                held.push("another log".to_string());
-            }
-            if left.occupied != values[0] {
-                held.push(format!("occupied {}", left.occupied));
-            }
-        } else if log[..end] != prepared.log[..end] {
-            held.push("other records".to_string());
-        }
-
-        // A marked tag page is one to write, as it stands, and the others are a page for each update.
-        let m = tag_pages_of(n);
-        let marked: BTreeSet<u64> = (0..m).filter(|&i| model.bytes[MARKS].1[i as usize] == 1).collect();
-        let written: BTreeSet<u64> = prepared.pages.iter().map(|(pn, _)| *pn).filter(|pn| *pn < m).collect();
-        if marked != written {
-            held.push(format!("tag pages {written:?} are written, {marked:?} marked"));
-        }
-        let mut data: Vec<(u64, &[u8])> = Vec::new();
-        let mut entries = entries(log, end);
-        entries.retain(|e| matches!(e, Entry::Update { .. }));
-        let updates = input.changes[..asked].iter().zip(pages.chunks(PAGE)).filter(|(c, _)| !c.diff.cleared());
-        for (entry, (_, page)) in entries.iter().zip(updates) {
-            if let Entry::Update { bucket, .. } = entry {
-                data.push((m + bucket, page));
-            }
-        }
-        let mut given: Vec<(u64, &[u8])> =
-            prepared.pages.iter().filter(|(pn, _)| *pn >= m).map(|(pn, p)| (*pn, &p[..])).collect();
-        data.sort_by_key(|(pn, _)| *pn);
-        given.sort_by_key(|(pn, _)| *pn);
-        if data != given {
-            held.push("other data pages".to_string());
-        }
-        for (pn, page) in prepared.pages.iter().filter(|(pn, _)| *pn < m) {
-            if left.tags[*pn as usize * PAGE..][..PAGE] != page[..] {
-                held.push(format!("tag page {pn} is written otherwise"));
-            }
-        }
-        let buckets: Vec<u64> = prepared.buckets.iter().flatten().copied().collect();
-        let logged: Vec<u64> = entries
-            .iter()
-            .map(|e| match e {
-                Entry::Update { bucket, .. } | Entry::Clear { bucket } => *bucket,
-                Entry::End => u64::MAX,
-            })
-            .collect();
-        if buckets != logged {
-            held.push("other buckets for the cache".to_string());
-        }
-        Heard::Held(if held.is_empty() { Ok(()) } else { Err(held.join(", ")) })
-    }
-
-    fn known(input: &Input, model: &Out, heard: &Heard) -> Option<&'static str> {
-        let log = &model.bytes[LOG].1;
-        match (&model.said, heard) {
-            (Said::Value(..) | Said::RefusedAt(..), Heard::Panicked(_)) if cfg!(debug_assertions) => {
-                let accepted = match model.said {
-                    Said::RefusedAt(j, _) => j as usize,
-                    _ => input.changes.len(),
-                };
-                let mut seen = BTreeSet::new();
-                let twice = logged(log, accepted).into_iter().any(|b| !seen.insert(b));
-                twice.then_some("sync: one bucket updated twice fails a debug assertion (01: accepted)")
-            }
-            (Said::RefusedAt(_, 10), Heard::Held(Err(said))) if said == NOT_MOVED => {
-                Some("sync: refused with 10, the tags keep earlier changes and occupied isn't moved (01: no number)")
-            }
-            _ => None,
+        let pages = ((PAGE * input.changes.len()) as i64 + input.pages_longer).max(0);
+        let lent = pages == PAGE as i64 * input.step.map_or(input.changes.len() as i64, |_| 1)
+            && input.marks().len() as u64 == n.div_ceil(4096);
+        match (input.step, input.writer) {
+            _ if !tags_fit(n, input.table.tag_bytes().len()) => refused_whole(input, 1),
+            _ if !lent => refused_whole(input, 2),
+            (None, _) => whole(input),
+            (Some(occupied), Writer::Open(at)) => step(input, occupied, at),
+            (Some(_), _) => refused_whole(input, 12),
         }
     }
 
     fn smaller(input: &Input) -> Vec<Input> {
         let mut out = Vec::new();
+        if input.changes.len() > 1 {
+            out.extend(input.changes.iter().map(|c| Input { changes: vec![*c], ..input.clone() }));
+        }
         for j in 0..input.changes.len() {
             let mut less = input.clone();
             less.changes.remove(j);
@@ -347,46 +398,6 @@ impl Op for SyncOp {
     }
 }
 
-/// Where end stands in a log that the original wrote.
-fn end_of(log: &[u8]) -> usize {
-    let mut at = reader::FIRST;
-    while let Ok((entry, next)) = reader::next(log, at) {
-        if entry == Entry::End {
-            break;
-        }
-        at = next;
-    }
-    at as usize
-}
-
-/// The entries of a log up to a place.
-fn entries(log: &[u8], end: usize) -> Vec<Entry> {
-    let mut at = reader::FIRST;
-    let mut out = Vec::new();
-    while (at as usize) < end {
-        match reader::next(log, at) {
-            Ok((Entry::End, _)) | Err(_) => break,
-            Ok((entry, next)) => {
-                out.push(entry);
-                at = next;
-            }
-        }
-    }
-    out
-}
-
-/// The buckets of the updates among the first entries of a log.
-fn logged(log: &[u8], count: usize) -> Vec<u64> {
-    let all = entries(log, log.len());
-    all.iter()
-        .take(count)
-        .filter_map(|e| match e {
-            Entry::Update { bucket, .. } => Some(*bucket),
-            _ => None,
-        })
-        .collect()
-}
-
 const CLEARED: Diff = Diff(1 << 127);
 
 /// Changes of every kind, in a table of n buckets with two cells.
@@ -413,7 +424,27 @@ fn kinds(n: u64) -> Vec<Told> {
     out
 }
 
+/// Clears of buckets that are not there: in the padding and past it.
+fn clears_outside(n: u64) -> Vec<Told> {
+    let label = Label { hash: 0, free: 1 };
+    let clear = |b| Told { label, diff: CLEARED, place: Place::Known(b) };
+    vec![clear(n), clear(4095), clear(4096), clear(u64::MAX), Told { place: Place::Cell(2), ..clear(0) }]
+}
+
 pub fn exhaustive(run: &mut Run) {
+    // A byte anywhere in the padding.
+    for n in [1, 2, 4095, 4097] {
+        let last = 4095 - n % 4096;
+        for at in [0, 1, last / 2, last] {
+            let table = Table { padding: Some((at, 0x81)), ..Table::new(n, &[0x80, 0x7F]) };
+            let fresh = Told { label: Label { hash: 1, free: 0 }, diff: Diff(1), place: Place::Fresh };
+            run.case::<SyncOp>(Input::new(table.clone(), &[]));
+            run.case::<SyncOp>(Input::new(table.clone(), &[fresh]));
+            for told in kinds(n).into_iter().chain(clears_outside(n)) {
+                run.case::<SyncOp>(Input { cells: vec![UNSET, 0, n], ..Input::new(table.clone(), &[fresh, told]) });
+            }
+        }
+    }
     // All tables of one and two buckets, all pairs of changes; on fewer tables, all triples.
     let some = [0x00, 0x01, 0x7F, 0x80, 0x81];
     let mut tables: Vec<Vec<u8>> = some.iter().map(|&a| vec![a]).collect();
@@ -432,6 +463,11 @@ pub fn exhaustive(run: &mut Run) {
                 for occupied in [0, 1, u64::MAX] {
                     run.case::<SyncOp>(Input { step: Some(occupied), writer: state, ..sync(&[*a]) });
                 }
+            }
+            for b in &clears_outside(n) {
+                run.case::<SyncOp>(sync(&[*b]));
+                run.case::<SyncOp>(sync(&[*a, *b, *a]));
+                run.case::<SyncOp>(Input { step: Some(1), writer: Writer::Open(5), ..sync(&[*b]) });
             }
             for b in &kinds {
                 run.case::<SyncOp>(sync(&[*a, *b]));
@@ -566,7 +602,7 @@ pub fn random(run: &mut Run, rng: &mut Rng) {
     };
     let mut table = Table::new(n, &any_tags(rng, n));
     if rng.once_in(10) {
-        table.padding = Some((rng.below(50), rng.next() as u8));
+        table.padding = Some((rng.below(4096), rng.next() as u8));
     }
     let cells: Vec<u64> = (0..rng.below(4))
         .map(|_| match rng.below(6) {

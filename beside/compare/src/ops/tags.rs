@@ -1,12 +1,15 @@
 //! meta_map.rs: one byte per bucket.
 
 use crate::{
+    departures as known,
     engine::Engine,
-    input::{any_count, any_tag, any_tags, smaller_number, Table, TAGS},
+    faults::heard,
+    heard::{outside, range_outside, unequal, Did, Heard},
+    input::{any_count, any_tag, any_tags, fill, smaller_number, tags_fit, Table, TAGS},
     rng::Rng,
-    run::{Heard, Op, Out, Run, Said},
+    run::{Op, Out, Run},
 };
-use model::tags::Kind;
+use model::tags::{full_tag, Kind, TOMBSTONE};
 
 pub struct TagOp;
 
@@ -23,6 +26,49 @@ pub enum Input {
 }
 
 use Input::*;
+
+/// A map of the original's, of tags that are no whole pages.
+pub fn no_pages(len: usize) -> Did {
+    Did::panic("bitbox/meta_map.rs:19", unequal(len as u64 % 4096, 0))
+}
+
+pub const FULL_COUNT: &str = "bitbox/meta_map.rs:27";
+
+/// A tag that is set, by what the original leaves. A map of its own has no length that it holds to.
+fn set(t: &Table, b: u64, tag: u8, at: &str, (said, left): (original::Said<()>, Vec<u8>)) -> Heard {
+    let did = Did::of(said, |()| Did::value("done", &[])).with("tags", left);
+    let tags = t.tag_bytes();
+    let out = |number| Out::refused(number).with("tags", t.tag_bytes());
+    let number = if tags_fit(t.n, tags.len()) { 9 } else { 1 };
+    if tags.len() % 4096 != 0 {
+        return did.departs(known::TAGS_NO_PAGES, no_pages(tags.len()).with("tags", tags), out(1));
+    }
+    if b >= tags.len() as u64 {
+        let wanted = Did::panic(at, outside(tags.len(), b)).with("tags", tags);
+        return did.departs(known::TAG_PAST_PADDING, wanted, out(number));
+    }
+    if number == 9 && b < t.n {
+        return did.plain();
+    }
+    let mut wanted = tags;
+    wanted[b as usize] = tag;
+    let how = if number == 9 { known::TAG_IN_PADDING } else { known::TAGS_TAKEN };
+    did.departs(how, Did::value("done", &[]).with("tags", wanted), out(number))
+}
+
+/// A question about all tags: what the original does where 01 refuses their number or length, from its count.
+fn of_lent(t: &Table, tags: &[u8], did: Did, asked: impl FnOnce(usize) -> Result<Did, Did>) -> Heard {
+    if tags_fit(t.n, tags.len()) {
+        return did.plain();
+    }
+    if tags.len() % 4096 != 0 {
+        return did.departs(known::TAGS_NO_PAGES, no_pages(tags.len()), Out::refused(1));
+    }
+    match asked(t.n as usize) {
+        Ok(wanted) => did.departs(known::TAGS_TAKEN, wanted, Out::refused(1)),
+        Err(wanted) => did.departs(known::TAGS_SHORT, wanted, Out::refused(1)),
+    }
+}
 
 impl Op for TagOp {
     type Input = Input;
@@ -58,52 +104,61 @@ impl Op for TagOp {
                 let said = E::set_tombstone(&mut tags, t.n, *b);
                 Out::of(said, |()| Out::value("done", &[])).with("tags", tags)
             }
-            FullCount(t) => Out::of(E::full_count(&t.tag_bytes(), t.n), |c| Out::value("count", &[c])),
-            Padding(t) => Out::of(E::padding_is_zero(&t.tag_bytes(), t.n), |z| Out::value("zero", &[z as u64])),
+            FullCount(t) => {
+                let tags = t.tag_bytes();
+                Out::of(E::full_count(&tags, t.n), |c| Out::value("count", &[c])).reading("tags", tags)
+            }
+            Padding(t) => {
+                let tags = t.tag_bytes();
+                Out::of(E::padding_is_zero(&tags, t.n), |z| Out::value("zero", &[z as u64])).reading("tags", tags)
+            }
             TagPage(b) => Out::value("page", &[E::tag_page(*b)]),
         }
     }
 
-    fn original(input: &Input, model: &Out) -> Heard {
+    fn original(input: &Input) -> Heard {
         use original::tags as o;
-        // A map of the original is always as long as its table.
-        if model.said == Said::Refused(1) {
-            return Heard::NotAsked;
-        }
         match input {
-            FullTag(hash) => Heard::Answered(Out::value("tag", &[o::full_entry(*hash) as u64])),
+            FullTag(hash) => Did::value("tag", &[o::full_entry(*hash) as u64]).plain(),
             Hints(tag, hash) => {
                 let mut tags = [0; 4096];
                 tags[2] = *tag;
-                Heard::of(o::hints(&tags, 4, 2, *hash), |h| {
-                    Out::value("hints", &[h.empty as u64, h.tombstone as u64, h.not_match as u64, h.full as u64])
+                Did::of(o::hints(&tags, 4, 2, *hash), |h| {
+                    Did::value("hints", &[h.empty as u64, h.tombstone as u64, h.not_match as u64, h.full as u64])
+                })
+                .plain()
+            }
+            SetFull(t, b, hash) => {
+                let said = o::set_full(&t.tag_bytes(), t.n as usize, *b as usize, *hash);
+                set(t, *b, full_tag(*hash), "bitbox/meta_map.rs:38", heard("set full", &[t.n, *b], said))
+            }
+            SetTombstone(t, b) => {
+                let said = o::set_tombstone(&t.tag_bytes(), t.n as usize, *b as usize);
+                set(t, *b, TOMBSTONE, "bitbox/meta_map.rs:52", heard("set tombstone", &[t.n, *b], said))
+            }
+            FullCount(t) => {
+                let tags = t.tag_bytes();
+                let said = heard("full count", &[t.n], o::full_count(&tags, t.n as usize));
+                let did = Did::of(said, |c| Did::value("count", &[c as u64]));
+                of_lent(t, &tags, did, |n| match tags.get(..n) {
+                    Some(tags) => Ok(Did::value("count", &[tags.iter().filter(|&&t| t >= 0x80).count() as u64])),
+                    None => Err(Did::panic(FULL_COUNT, range_outside(tags.len(), ..n))),
                 })
             }
-            SetFull(t, b, hash) => Heard::of(o::set_full(&t.tag_bytes(), t.n as usize, *b as usize, *hash), |tags| {
-                Out::value("done", &[]).with("tags", tags)
-            }),
-            SetTombstone(t, b) => Heard::of(o::set_tombstone(&t.tag_bytes(), t.n as usize, *b as usize), |tags| {
-                Out::value("done", &[]).with("tags", tags)
-            }),
-            FullCount(t) => {
-                Heard::of(o::full_count(&t.tag_bytes(), t.n as usize), |c| Out::value("count", &[c as u64]))
-            }
             Padding(t) => {
-                Heard::of(o::padding_is_empty(&t.tag_bytes(), t.n as usize), |z| Out::value("zero", &[z as u64]))
+                let tags = t.tag_bytes();
+                let did = Did::of(o::padding_is_empty(&tags, t.n as usize), |z| Did::value("zero", &[z as u64]));
+                of_lent(t, &tags, did, |n| match tags.get(n..) {
+                    Some(tags) => Ok(Did::value("zero", &[tags.iter().all(|&t| t == 0) as u64])),
+                    None => Err(Did::panic("bitbox/meta_map.rs:46", range_outside(tags.len(), n..))),
+                })
             }
-            TagPage(b) => Heard::of(o::page_index(*b as usize), |p| Out::value("page", &[p as u64])),
-        }
-    }
-
-    fn known(input: &Input, model: &Out, heard: &Heard) -> Option<&'static str> {
-        match (input, &model.said, heard) {
-            (SetFull(..) | SetTombstone(..), Said::Refused(9), Heard::Answered(_)) => {
-                Some("a tag of the padding is set (01: 9)")
+            // A tag page's number among the tags is its number in the file.
+            TagPage(b) => {
+                let page = o::page_index(*b as usize);
+                let page = page.and_then(|page| original::places::meta_bytes_index(1, page as u64));
+                Did::of(page, |page| Did::value("page", &[page])).plain()
             }
-            (SetFull(..) | SetTombstone(..), Said::Refused(9), Heard::Panicked(_)) => {
-                Some("a tag past the padding panics (01: 9)")
-            }
-            _ => None,
         }
     }
 
@@ -154,6 +209,16 @@ pub fn counts() -> Vec<u64> {
 }
 
 pub fn exhaustive(run: &mut Run) {
+    // Many full buckets.
+    for n in [4201, 10_502, 16_385, 20_011, 65_537, 1_048_576] {
+        let mut tags = vec![0; n as usize];
+        fill(&mut tags, n);
+        let t = Table::new(n, &tags);
+        for t in [Table { padding: Some((0, 0x80)), ..t.clone() }, t] {
+            run.case::<TagOp>(FullCount(t.clone()));
+            run.case::<TagOp>(Padding(t));
+        }
+    }
     for tag in 0..=255 {
         for full in 0..128u64 {
             run.case::<TagOp>(Hints(tag, full << 57 | 5));

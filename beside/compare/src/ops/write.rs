@@ -1,15 +1,17 @@
 //! wal/write.rs: the writer, call by call. A case is a list of calls, and its answer that of the last.
 
 use crate::{
+    departures as known,
     engine::Engine,
+    faults::heard,
+    heard::{Did, Heard},
     input::{any_diff, good_diff, smaller_diff, smaller_number, words, Filler, Label},
     rng::Rng,
-    run::{Heard, Op, Out, Run},
+    run::{Op, Out, Run},
 };
 use model::{
     diff::{Diff, Packed, NODE, SLOTS},
     writer::Writer,
-    Refused,
 };
 use original::log::Builder;
 
@@ -59,45 +61,59 @@ fn state_bytes(w: Writer) -> Vec<u8> {
     [kind.to_le_bytes(), at.to_le_bytes()].concat()
 }
 
-/// The calls, one after the other; after each, `seen` is told its answer, the state and the slice.
-fn calls<E: Engine>(input: &Input, mut seen: impl FnMut(&Call, Option<Refused>, Writer, &[u8])) -> Out {
-    let mut slice = input.slice.bytes();
-    let mut lent = slice.len();
-    let mut w = Writer::Fresh;
-    let mut out = Out::value("nothing", &[]);
-    for call in &input.calls {
-        let log = &mut slice[..lent];
-        let said = match call {
-            Call::Begin(sync) => E::begin(log, w, *sync),
-            Call::Clear(b) => E::write_clear(log, w, *b),
-            Call::Update { label, diff, count, with, bucket } => {
-                let packed = Packed { nodes: nodes_of(*with), count: count.unwrap_or(diff.count()) };
-                E::write_update(log, w, &label.id(), *diff, &packed, &elided_of(*with), *bucket)
-            }
-            Call::Finish => E::finish(log, w).map(|(len, after)| {
-                // The length is answered beside the state, which holds it too.
-                if after == Writer::Finished(len) {
-                    after
-                } else {
-                    Writer::Fresh
-                }
-            }),
-            Call::Lend(len) => {
-                lent = (*len).min(slice.len());
-                Ok(w)
-            }
-            Call::Forge(state) => Ok(*state),
-        };
-        out = match said {
-            Ok(after) => {
-                w = after;
-                Out::value("done", &[])
-            }
-            Err(why) => Out::refused(why),
-        };
-        seen(call, said.err(), w, &slice);
+/// The bytes of a record as the original writes it, any number of nodes as they come.
+fn record(call: &Call) -> Vec<u8> {
+    match call {
+        Call::Begin(sync) => [&[1][..], &sync.to_le_bytes()].concat(),
+        Call::Clear(b) => [&[3][..], &b.to_le_bytes()].concat(),
+        Call::Update { label, diff, with, bucket, .. } => {
+            let nodes = nodes_given(call);
+            let fields = [&label.id()[..], &diff.bytes(), nodes.as_flattened(), &elided_of(*with)];
+            [&[4][..], &fields.concat(), &bucket.to_le_bytes()].concat()
+        }
+        Call::Finish => vec![2],
+        Call::Lend(_) | Call::Forge(_) => vec![],
     }
-    out.with("state", state_bytes(w)).with("slice", slice)
+}
+
+/// The nodes that a call of the original is given: a list as long as the count.
+fn nodes_given(call: &Call) -> Vec<[u8; NODE]> {
+    match call {
+        Call::Update { diff, count, with, .. } => {
+            let mut nodes = nodes_of(*with).to_vec();
+            nodes.resize(count.unwrap_or(diff.count()) as usize, [0; NODE]);
+            nodes
+        }
+        _ => vec![],
+    }
+}
+
+/// The number that 01 refuses a call with, by the original's position and the room that is lent.
+fn refusal(call: &Call, open: bool, at: usize, lent: usize) -> Option<u8> {
+    let room = lent / 4096 * 4096;
+    let size = record(call).len();
+    match call {
+        Call::Lend(_) | Call::Forge(_) => None,
+        Call::Begin(_) => (room < 4096).then_some(13),
+        _ if !open => Some(12),
+        Call::Update { diff, count: Some(count), .. } if *count != diff.0.count_ones() as u64 => Some(2),
+        Call::Update { diff, .. } if diff.0 >> 126 != 0 => Some(4),
+        Call::Finish => (at + 1 > room).then_some(13),
+        _ => (at + size + 1 > room).then_some(13),
+    }
+}
+
+/// One call on the original.
+fn asked(builder: &mut Builder, call: &Call) -> original::Said<()> {
+    match call {
+        Call::Begin(sync) => builder.reset(*sync),
+        Call::Clear(b) => builder.write_clear(*b),
+        Call::Update { label, diff, with, bucket, .. } => {
+            builder.write_update(label.id(), words(*diff), &nodes_given(call), elided_of(*with), *bucket)
+        }
+        Call::Finish => builder.finalize(),
+        Call::Lend(_) | Call::Forge(_) => Ok(()),
+    }
 }
 
 impl Op for WriteOp {
@@ -114,51 +130,104 @@ impl Op for WriteOp {
     }
 
     fn run<E: Engine>(input: &Input) -> Out {
-        calls::<E>(input, |_, _, _, _| {})
+        let mut slice = input.slice.bytes();
+        let mut lent = slice.len();
+        let mut w = Writer::Fresh;
+        let mut out = Out::value("nothing", &[]);
+        for call in &input.calls {
+            let log = &mut slice[..lent];
+            let said = match call {
+                Call::Begin(sync) => E::begin(log, w, *sync),
+                Call::Clear(b) => E::write_clear(log, w, *b),
+                Call::Update { label, diff, count, with, bucket } => {
+                    let packed = Packed { nodes: nodes_of(*with), count: count.unwrap_or(diff.count()) };
+                    E::write_update(log, w, &label.id(), *diff, &packed, &elided_of(*with), *bucket)
+                }
+                Call::Finish => E::finish(log, w).map(|(len, after)| {
+                    // The length is answered beside the state, which holds it too.
+                    if after == Writer::Finished(len) {
+                        after
+                    } else {
+                        Writer::Fresh
+                    }
+                }),
+                Call::Lend(len) => {
+                    lent = (*len).min(slice.len());
+                    Ok(w)
+                }
+                Call::Forge(state) => Ok(*state),
+            };
+            out = match said {
+                Ok(after) => {
+                    w = after;
+                    Out::value("done", &[])
+                }
+                Err(why) => Out::refused(why.0),
+            };
+        }
+        out.with("state", state_bytes(w)).with("slice", slice)
     }
 
-    /// The original takes the calls that 01 accepts; its buffer has to be the slice after each.
-    fn original(input: &Input, _model: &Out) -> Heard {
-        if input.calls.iter().any(|c| matches!(c, Call::Forge(_))) {
+    /// The original takes the calls that 01 accepts, and the last one in any case; its buffer starts the slice.
+    fn original(input: &Input) -> Heard {
+        let too_many = |c: &Call| matches!(c, Call::Update { count: Some(count), .. } if *count > 1 << 12);
+        if input.calls.iter().any(|c| matches!(c, Call::Forge(_)) || too_many(c)) {
             return Heard::NotAsked;
         }
         let size = if input.slice.with % 2 == 0 { 4096 } else { 1 << 16 };
         let mut builder = match Builder::with_initial_size(size) {
             Ok(builder) => builder,
-            Err(trouble) => return trouble.into(),
+            Err(trouble) => return Did::of(Err::<(), _>(trouble), |()| Did::value("", &[])).plain(),
         };
-        let mut held = Ok(());
-        let mut asked = false;
-        calls::<crate::engine::Model>(input, |call, refused, w, slice| {
-            if refused.is_some() || held.is_err() {
-                return;
+        let mut slice = input.slice.bytes();
+        let mut lent = slice.len();
+        let mut w = Writer::Fresh;
+        let mut said = "nothing";
+        for (i, call) in input.calls.iter().enumerate() {
+            if let Call::Lend(len) = call {
+                lent = (*len).min(slice.len());
             }
-            let said = match call {
-                Call::Begin(sync) => builder.reset(*sync),
-                Call::Clear(b) => builder.write_clear(*b),
-                Call::Update { label, diff, with, bucket, .. } => {
-                    let nodes = nodes_of(*with);
-                    let nodes = &nodes[..diff.count() as usize];
-                    builder.write_update(label.id(), words(*diff), nodes, elided_of(*with), *bucket)
+            let last = i + 1 == input.calls.len();
+            let at = builder.position();
+            said = "done";
+            match refusal(call, matches!(w, Writer::Open(_)), at, lent) {
+                Some(number) if last => {
+                    // The record after what stands there, or at the start; end with zeros up to a page.
+                    let mut wanted = if matches!(call, Call::Begin(_)) { vec![] } else { builder.bytes().to_vec() };
+                    wanted.extend(record(call));
+                    if *call == Call::Finish {
+                        wanted.resize(wanted.len().next_multiple_of(4096), 0);
+                    }
+                    let did = Did::of(asked(&mut builder, call), |()| Did::value("done", &[]));
+                    let did = did.with("buffer", heard("writer", &[number as u64], builder.bytes().to_vec()));
+                    let how = match number {
+                        2 => known::WRITER_NODES,
+                        4 => known::WRITER_BITS,
+                        12 => known::WRITER_NOT_OPEN,
+                        _ => known::WRITER_GROWS,
+                    };
+                    let out = Out::refused(number).with("state", state_bytes(w)).with("slice", slice);
+                    return did.departs(how, Did::value("done", &[]).with("buffer", wanted), out);
                 }
-                Call::Finish => builder.finalize(),
-                Call::Lend(_) | Call::Forge(_) => return,
-            };
-            asked = true;
-            let (Writer::Open(at) | Writer::Finished(at)) = w else { return };
-            if let Err(trouble) = said {
-                held = Err(format!("{trouble:?} at {call:?}"));
-            } else if builder.position() as u64 != at {
-                held = Err(format!("position {} after {call:?}, 01: {at}", builder.position()));
-            } else if builder.bytes() != &slice[..at as usize] {
-                held = Err(format!("other bytes after {call:?}"));
+                Some(_) => {}
+                None => {
+                    if let Err(trouble) = asked(&mut builder, call) {
+                        return Did::of(Err::<(), _>(trouble), |()| Did::value("", &[])).plain();
+                    }
+                    let at = builder.position();
+                    w = match call {
+                        Call::Lend(_) | Call::Forge(_) => w,
+                        Call::Finish => Writer::Finished(at as u64),
+                        _ => Writer::Open(at as u64),
+                    };
+                    match slice.get_mut(..at) {
+                        Some(start) => start.copy_from_slice(builder.bytes()),
+                        None => return Heard::Held(Err(format!("it stands at {at}, past the slice"))),
+                    }
+                }
             }
-        });
-        if asked {
-            Heard::Held(held)
-        } else {
-            Heard::NotAsked
         }
+        Did::value(said, &[]).with("state", state_bytes(w)).with("slice", slice).plain()
     }
 
     fn smaller(input: &Input) -> Vec<Input> {

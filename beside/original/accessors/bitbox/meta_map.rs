@@ -17,4 +17,8 @@ pub(crate) mod beside {
     pub(crate) fn tags(map: &MetaMap) -> &[u8] {
         &map.bitvec
     }
+
+    pub(crate) fn tags_mut(map: &mut MetaMap) -> &mut [u8] {
+        &mut map.bitvec
+    }
 }

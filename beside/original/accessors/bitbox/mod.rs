@@ -107,11 +107,6 @@ pub(crate) mod beside {
         db.shared.wal_blob_builder.clone()
     }
 
-    // The visits that a load has made.
-    pub(crate) fn visits(load: &PageLoad) -> u64 {
-        load.probe_sequence.step
-    }
-
     pub(crate) type Prepared = (Vec<(u64, Arc<FatPage>)>, Vec<(PageId, Option<(Page, BucketIndex)>)>);
 
     pub(crate) fn prepare_sync(
