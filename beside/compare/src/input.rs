@@ -385,9 +385,18 @@ impl Log {
 
     /// The records' bytes alone.
     fn written(&self) -> Vec<u8> {
+        self.written_up_to(self.records.len())
+    }
+
+    /// Where a record starts.
+    pub fn start(&self, record: usize) -> u64 {
+        self.written_up_to(record).len() as u64
+    }
+
+    fn written_up_to(&self, record: usize) -> Vec<u8> {
         let mut log = vec![START];
         log.extend(self.sync.to_le_bytes());
-        for r in &self.records {
+        for r in &self.records[..record] {
             match r {
                 Record::Clear(b) => {
                     log.push(CLEAR);

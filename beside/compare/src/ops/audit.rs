@@ -106,7 +106,7 @@ fn audit(table: Table) -> Input {
 pub fn exhaustive(run: &mut Run) {
     // Large tables with many full buckets: in order, and with one label twice.
     for n in [4300, 10_600, 16_500] {
-        let mut table = stored(&mut Rng(n), n, n * 3 / 4);
+        let mut table = stored(&mut Rng(n), n, n / 2);
         run.case::<AuditOp>(audit(table.clone()));
         let full: Vec<u64> = table.labels.keys().copied().collect();
         let first = table.labels[&full[0]];

@@ -355,6 +355,12 @@ pub fn exhaustive(run: &mut Run) {
         }
     }
     for log in good_logs() {
+        // Step after step.
+        for i in 0..log.records.len() {
+            for foreign in [false, true] {
+                run.case::<ReplayOp>(Input { step: Some(log.start(i)), foreign, ..Input::new(table(3), log.clone()) });
+            }
+        }
         // Every single-byte change, under the log's sync number.
         for changed in changed_bytes(&log) {
             run.case::<ReplayOp>(Input::new(table(3), changed));
@@ -410,8 +416,8 @@ pub fn random(run: &mut Run, rng: &mut Rng) {
         0 => input.sync = input.sync.wrapping_add(1),
         1 => input.hashes_more = rng.below(5) as i64 - 2,
         2 => input.foreign = true,
-        3 | 4 => input.step = Some(rng.below(input.log.used() as u64 + 3)),
-        5 => input.step = Some(5),
+        3 => input.step = Some(rng.below(input.log.used() as u64 + 3)),
+        4..=6 => input.step = Some(input.log.start(rng.below(input.log.records.len() as u64 + 1) as usize)),
         _ => {}
     }
     run.case::<ReplayOp>(input);
