@@ -40,7 +40,7 @@ fn stands(written: &str) -> Option<bool> {
 fn promised(written: &str) -> Option<bool> {
     let (of, name) = written.split_once("::")?;
     let text = fs::read_to_string(crate_folder(of).join("src/lib.rt")).unwrap_or_default();
-    let starts = [format!("pub fn {name}("), format!("pub extern \"C\" fn {name}(")];
+    let starts = [format!("pub fn {name}("), format!("pub fn {name}<"), format!("pub extern \"C\" fn {name}(")];
     let from = starts.iter().find_map(|start| text.find(start.as_str()));
     Some(from.is_some_and(|at| text[at..].lines().take_while(|l| *l != "{").any(|l| l.contains("ensures"))))
 }
