@@ -1,19 +1,21 @@
 -- 01, 'Reading off a log': its example of `list`, and what the calls answer line by line, computed. Assumes nothing.
-use mathlib.Core.Path.{_≡_, refl, ap₂}
+use mathlib.Core.Path.{_≡_, refl, ap, ap₂, _∙_}
 use mathlib.Core.Bool.{cond}
 use mathlib.Core.List.{List, [], _∷_, _++_, map}
-use Prim.Native.Nat.{ℕ}
+use Prim.Native.Nat.{ℕ, _-_, _<_}
+use native.Mathlib.Omega.{arith}
 use lib.Dec.{leb}
-use lib.ListN.{length, replicate, length-replicate}
+use lib.ListN.{length, getD, replicate, length-replicate, getD-replicate}
 use Rattle.answers.specs.Answers.{Answer, given, refused}
 use Rattle.answers.specs.declared.Refusal.the-variants.{LengthUnfit}
 use Rattle.blocks.specs.Blocks.{block, put, flat}
+use Rattle.blocks.proofs.Laws.{put-in, put-right}
 use Rattle.page_diff.specs.Diff.{digit, marked, slotsBelow}
 use Rattle.wal.specs.Log.{Entry, clear, update, startRecord, endRecord, recordOf, recordsOf}
 use Rattle.wal.specs.Reader.{startOf, nextAt, clearAt, updateAt, updateOf, nodesFrom, readIn, readBy}
 use Rattle.wal.proofs.Examples.{log}
 use Rattle.wal_list.specs.Lines.{ascii, digitsIn, entryLines, linesOf}
-use Rattle.wal_list.specs.Shown.{Said, on, over, firstShown, shownAt, lineSaid, lineAnswer, lineAfter, linesSize, linesAnswer}
+use Rattle.wal_list.specs.Shown.{Said, on, over, firstShown, shownAt, lineSaid, lineAnswer, lineAfter, linesSize, linesAnswer, linesAfter}
 use Rattle.wal_list.specs.declared.Line.the-variants as line
 
 -- "For sync 7, clear 3, update of bucket 9 with two slots"
@@ -49,6 +51,31 @@ unfolding linesOf startOf readBy nextAt block marked slotsBelow digitsIn entryLi
 all-at-once =
     ap₂ (λ (a b : ℕ). cond (leb linesSize a) (given (length (linesOf log))) (refused 2) ∷ cond (leb linesSize b) (given (length (linesOf log))) (refused 2) ∷ [])
     (length-replicate {A = ℕ} 262304 6) (length-replicate {A = ℕ} 262303 6)
+
+-- and that memory: its lines' first bytes and their last one, and what stood after them
+memory-is : linesAfter (replicate 262304 6) log ≡ put (replicate 262304 6) 0 (linesOf log)
+memory-is = ap (λ (n : ℕ). cond (leb linesSize n) (put (replicate 262304 6) 0 (linesOf log)) (replicate 262304 6)) (length-replicate {A = ℕ} 262304 6)
+
+lines-long : length (linesOf log) ≡ 42
+unfolding linesOf startOf readBy nextAt block marked slotsBelow digitsIn entryLines
+lines-long = refl
+
+in-lines : (j : ℕ) → j < 42 → getD (linesAfter (replicate 262304 6) log) j 0 ≡ getD (linesOf log) (j - 0) 0
+in-lines j l =
+    ap (λ (m : List ℕ). getD m j 0) memory-is
+    ∙ put-in (replicate 262304 6) 0 (linesOf log) j (omega (arith, lines-long, length-replicate {A = ℕ} 262304 6)) (omega arith) (omega (arith, lines-long))
+
+after-lines : getD (linesAfter (replicate 262304 6) log) 42 0 ≡ 6
+after-lines =
+    ap (λ (m : List ℕ). getD m 42 0) memory-is
+    ∙ put-right (replicate 262304 6) 0 (linesOf log) 42 (omega (arith, lines-long)) ∙ getD-replicate {A = ℕ} 262304 42 6 0 (omega arith)
+
+pub into-memory : map (λ j. getD (linesAfter (replicate 262304 6) log) j 0) (0 ∷ 2 ∷ 41 ∷ 42 ∷ []) ≡ 48 ∷ 115 ∷ 10 ∷ 6 ∷ []
+unfolding linesOf startOf readBy nextAt block marked slotsBelow digitsIn entryLines
+into-memory = four (in-lines 0 (omega arith)) (in-lines 2 (omega arith)) (in-lines 41 (omega arith)) after-lines
+  where
+    four : {a b c d x y z w : ℕ} → a ≡ x → b ≡ y → c ≡ z → d ≡ w → a ∷ b ∷ c ∷ d ∷ [] ≡ x ∷ y ∷ z ∷ w ∷ []
+    four p q r s = cc
 
 -- each case of the code's answer
 pub said : map lineSaid (line.More 10 5 ∷ line.Last 8 ∷ line.Refused LengthUnfit ∷ []) ≡ given (on 10 5) ∷ given (over 8) ∷ refused 2 ∷ []

@@ -4,15 +4,18 @@ use mathlib.Core.Path.{_≡_, refl}
 use mathlib.Core.List.{List, [], _∷_, _++_, map}
 use Prim.Native.Nat.{_^_}
 use lib.ListN.{take, replicate}
+use Rattle.answers.specs.Answers.{given, refused}
 use Rattle.answers.specs.declared.Refusal.the-variants.{LogCut, TagUnknown}
 use Rattle.blocks.specs.Blocks.{block}
 use Rattle.page_diff.specs.Diff.{marked, slotsBelow}
 use Rattle.page_diff.specs.Pack.{packedBy}
 use Rattle.page_diff.specs.declared.Packed.{Packed}
-use Rattle.wal.specs.Reader.{Next, nextAt}
+use Rattle.wal.specs.Log.{clear}
+use Rattle.wal.specs.Reader.{Next, next, stopped, nextAt}
 use Rattle.wal.proofs.Examples.{log, toDiff}
 use Rattle.wal_read.specs.Head.{aClear, anUpdate, theEnd, aRefusal, headOf, headSaid}
 use Rattle.wal_read.specs.Entry.{clears, updates, ends, refuses, whatOf, whatSaid, idOf, diffOf, elidedOf, rows, packedOf, nextOf, Taken}
+use Rattle.wal_read.specs.Set.{givesAt}
 use Rattle.wal_read.specs.declared.Head.the-variants as head
 use Rattle.wal_read.specs.declared.What.the-variants as what
 use Rattle.wal_read.specs.declared.WalEntry.{WalEntry}
@@ -55,6 +58,11 @@ answered = record { what = what.Update 9; id = replicate 32 1; diff = record { w
 pub taken : Taken (nextAt log 14) 14 answered
 unfolding nextAt block marked slotsBelow rows
 taken = record { what-is = refl; id-is = refl; diff-is = refl; packed-is = refl; elided-is = refl; next-is = refl }
+
+-- what a reader gives, by what its start answered: the entry, or the start's refusal
+pub given-at : givesAt (given 7) log 5 ∷ givesAt (refused 7) log 5 ∷ [] ≡ next (clear 3) 14 ∷ stopped 7 ∷ []
+unfolding nextAt block
+given-at = refl
 
 -- each case of the code's answers
 pub said : (map headSaid (head.Clear 3 14 ∷ head.Update 9 2 143 ∷ head.End ∷ head.Refused TagUnknown ∷ []) ≡ aClear 3 14 ∷ anUpdate 9 2 143 ∷ theEnd ∷ aRefusal 8 ∷ [])
