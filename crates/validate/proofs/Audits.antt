@@ -20,10 +20,12 @@ use Rattle.answers.proofs.Truth as TruthT
 use Rattle.answers.proofs.Laws.{given-one, given-refused}
 use Rattle.ht_file.specs.Places.{countAllowed, tagsLength, imageLength, tagsFit, imageFits, tagsOf, ifTags, ifTable}
 use Rattle.ht_file.proofs.Laws.{both-hold, image-fits-facts, table-unfit}
+use Rattle.label_search.specs.Labels.{doubled}
+use Rattle.label_search.specs.InnerSearch.{FirstDoubled}
 use Rattle.meta_map.specs.Tags.{full, countOf, paddingEmpty}
 use Rattle.meta_map.proofs.Laws.{count-agree}
-use Rattle.validate.specs.Audit.{doubled, pathAudit, bucketAudit, auditedTo, auditOf, auditAnswer}
-use Rattle.validate.specs.InnerAudit.{pathsTo, FirstDoubled}
+use Rattle.validate.specs.Audit.{pathAudit, bucketAudit, auditedTo, auditOf, auditAnswer}
+use Rattle.validate.specs.InnerAudit.{pathsTo}
 
 module _ (img : List ℕ) (n : ℕ) (hashes : List ℕ) where
   pub paths-none : pathsTo img n hashes 0 ≡ given tt

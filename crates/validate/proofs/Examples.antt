@@ -12,9 +12,10 @@ use lib.Ieee.{binary64}
 use lib.Ieee as Ieee
 use Rattle.answers.specs.Answers.{Answer, given, refused, andThen}
 use Rattle.answers.specs.declared.Refusal.the-variants.{PaddingUsed, LabelTwice, TagWrong, EmptyFirst, NotReached}
+use Rattle.label_search.specs.Labels.{labelled, doubled}
 use Rattle.meta_map.specs.Tags.{fullTag, countOf, allZero, isFull}
 use Rattle.probe.specs.Path.{visit}
-use Rattle.validate.specs.Audit.{labelled, doubled, reaching, auditVisits, stopsReach, pathAudit, bucketAudit, auditedTo, rateOf, auditOf, auditAnswer, auditedSaid}
+use Rattle.validate.specs.Audit.{reaching, auditVisits, stopsReach, pathAudit, bucketAudit, auditedTo, rateOf, auditOf, auditAnswer, auditedSaid}
 use Rattle.validate.specs.declared.Audit.{Audit}
 use Rattle.validate.specs.declared.Audited.the-variants as audited
 use Rattle.validate.proofs.Audits.{audit-buckets}

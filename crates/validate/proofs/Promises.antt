@@ -2,8 +2,7 @@
 use mathlib.Core.Path.{_≡_, refl, sym, ap, ap₂, _∙_, subst}
 use mathlib.Core.Bool.{Bool, true, false, true≢false, cond, _&&_}
 use mathlib.Core.List.{List}
-use mathlib.Core.Logic.{_⊎_}
-use Prim.Native.Nat.{ℕ, zero, suc, _+_, _*_, _≤_, _<_}
+use Prim.Native.Nat.{ℕ, zero, suc, _*_, _≤_, _<_}
 use native.Mathlib.Decide.{ℕ-discrete, decLt}
 use native.Mathlib.Omega.{arith}
 use lib.Dec.{eqb}
@@ -13,14 +12,15 @@ use Rattle.answers.specs.Answers.{Answer, given, refused, andThen}
 use Rattle.answers.proofs.Laws.{given-one, given-refused}
 use Rattle.ht_file.specs.Places.{imageFits, tagsOf}
 use Rattle.ht_file.proofs.Laws.{image-fits-facts}
+use Rattle.label_search.specs.Labels.{doubled}
+use Rattle.label_search.proofs.Labels.{labelled-by}
 use Rattle.meta_map.specs.Tags.{full, isKind, fullTag, countOf, paddingEmpty, isFull}
 use Rattle.meta_map.proofs.Laws.{full-tag-kind}
 use Rattle.probe.specs.Path.{visit, pageEnd, foundAt, lookupAnswer}
 use Rattle.probe.proofs.Visits.{visit-below}
 use Rattle.probe.proofs.Promises.{HasPage, found-by}
 use Rattle.validate.specs.declared.Audit.{Audit}
-use Rattle.validate.specs.Audit.{doubled, reaching, bucketAudit, auditedTo, rateOf, auditOf, auditAnswer}
-use Rattle.validate.proofs.Labels.{labelled-by}
+use Rattle.validate.specs.Audit.{reaching, bucketAudit, auditedTo, rateOf, auditOf, auditAnswer}
 use Rattle.validate.proofs.Reaches.{reached-told}
 
 -- a full bucket that passed: no earlier full one has its label, its tag is the hash's, and its path leads to it

@@ -1,7 +1,7 @@
 -- 01, 'Audit': what an audit of a table image answers. Assumes nothing.
-use mathlib.Core.Bool.{Bool, false, cond, _&&_, _||_}
+use mathlib.Core.Bool.{Bool, cond, _||_}
 use mathlib.Core.List.{List}
-use Prim.Native.Nat.{ℕ, zero, suc, _+_, _*_, _≤_, _<_}
+use Prim.Native.Nat.{ℕ, zero, suc, _*_}
 use lib.Dec.{leb, eqb}
 use lib.ListN.{length, getD}
 use lib.IntN.{pos}
@@ -10,21 +10,12 @@ use lib.Ieee.{Float, binary64}
 use Rattle.answers.specs.Answers.{Answer, given, refused, andThen}
 use Rattle.answers.specs.Refusals.{numberOf}
 use Rattle.ht_file.specs.Places.{tagsOf, ifImage}
+use Rattle.label_search.specs.Labels.{labelled, doubled}
 use Rattle.meta_map.specs.Tags.{full, isFull, fullTag, countOf, allZero, paddingEmpty}
-use Rattle.probe.specs.Path.{visit, visits, Stop, stopAt, nowhere, firstStop, isEmpty, sameBytes, pageEnd}
+use Rattle.probe.specs.Path.{visits, Stop, stopAt, nowhere, firstStop, isEmpty}
 use Rattle.validate.specs.declared.Audit.{Audit}
 use Rattle.validate.specs.declared.Audited.{Audited}
 use Rattle.validate.specs.declared.Audited.the-variants as audited
-
--- a full bucket before k has the label l: a search among them
-unfoldable pub labelled : List ℕ → ℕ → List ℕ → ℕ → Bool
-unfolding sameBytes
-labelled img n l zero = false
-labelled img n l (suc j) = labelled img n l j || (isFull (getD img j 0) && sameBytes (pageEnd img n j) l)
-
--- refusal 21: "label twice", told at the later of two full buckets
-abbrev pub doubled : List ℕ → ℕ → ℕ → Bool
-doubled img n b = isFull (getD img b 0) && labelled img n (pageEnd img n b) b
 
 -- "Reachable: its bucket is visited within max(2n, 100,000) visits with no empty visit before"; 23: "empty met first", 24: "not reached"
 abbrev pub auditVisits : ℕ → ℕ
@@ -45,7 +36,7 @@ reaching img n h b = reachSaw b (firstStop (stopsReach img b) 0 (visits n h 0 (a
 abbrev pub pathAudit : List ℕ → ℕ → ℕ → ℕ → Answer (Unit {0})
 pathAudit img n h b = cond (isFull (getD img b 0)) (cond (eqb (getD img b 0) (fullTag h)) (reaching img n h b) (refused 22)) (given tt)
 
--- "bucket by bucket 21, 22, 23 or 24"
+-- "bucket by bucket 21, 22, 23 or 24"; 21: "label twice"
 abbrev pub bucketAudit : List ℕ → ℕ → ℕ → ℕ → Answer (Unit {0})
 bucketAudit img n h b = cond (doubled img n b) (refused 21) (pathAudit img n h b)
 

@@ -1,3 +1,2 @@
 pub mod Audit
 pub mod InnerAudit
-pub mod InnerFilter

@@ -1,5 +1,5 @@
 -- The test is that of the number's bit; past the words there is none. Assumes nothing.
-use mathlib.Core.Path.{_≡_, refl, sym}
+use mathlib.Core.Path.{refl, sym}
 use native.Mathlib.Omega.{arith}
 use Rattle.page_diff.specs.Diff.{marked}
 use Rattle.bucket_set.proofs.Laws.{past-has}

@@ -1,7 +1,7 @@
 -- By the tests in their order; bucket by bucket it is the audit of tags and paths up to the first doubled label, and 21 there. Assumes nothing.
 use mathlib.Core.Path.{_≡_, sym, ap, ap₂, _∙_}
 use mathlib.Core.Bool.{true}
-use Prim.Native.Nat.{ℕ, _≤_, _<_}
+use Prim.Native.Nat.{ℕ, _≤_}
 use native.Mathlib.Omega.{arith}
 use lib.ListN.{length, take}
 use lib.Seq.{length-take-le}
@@ -11,6 +11,9 @@ use Rattle.answers.specs.Refusals.{numberOf}
 use Rattle.answers.proofs.Laws.{given-one, given-refused}
 use Rattle.ht_file.specs.Places.{imageFits, imageLength, tagsOf, tagsLength, ifTags}
 use Rattle.ht_file.proofs.Laws.{image-fits-facts, tags-end, table-fits}
+use Rattle.label_search.specs.Labels.{doubledBefore}
+use Rattle.label_search.specs.InnerSearch.{FirstDoubled}
+use Rattle.label_search.proofs.Firsts.{first-given, first-told}
 use Rattle.meta_map.specs.Tags.{full, countOf, paddingEmpty}
 use Rattle.meta_map.proofs.Laws.{count-le}
 use Rattle.validate.specs.Audit.{auditedTo, auditOf, auditAnswer, rateOf}
@@ -85,11 +88,24 @@ by-buckets c =
     audit-buckets (a .image .now) (a .n) (a .hashes .now) (fits (told c)) (each c)
     (sym (given-one true (paddingEmpty (tagsOf (a .n) (a .image .now)) (a .n)) (sym (ap truthSaid (t .enum-told2 .given .1)) ∙ is-padding (asked c))))
 
--- the buckets before the first doubled label pass
-paths : (c : tie.After-enum-told4) → let known = c .before .before .before .before in
-    let a = start (told known) .args in
-    pathsTo (a .image .now) (a .n) (a .hashes .now) (c .before .before .before .first-doubled .result) ≡ given tt
-paths c = sym (c .before .before .check-buckets .ensures) ∙ ap outcomeSaid (c .enum-told4 .given .1)
+-- what was found is the first doubled label
+abbrev known : tie.After-known-told3 → tie.After-known-told2
+known c = c .before .before .before .before
+
+abbrev first : tie.After-known-told3 → ℕ
+first c = c .before .found .given .0 .0
+
+is-first : (c : tie.After-known-told3) → FirstDoubled (start (told (known c)) .args .image .now) (start (told (known c)) .args .n) (first c)
+is-first c =
+    let t = told (known c) in
+    let a = start t .args in
+    first-told (a .image .now) (a .n) (fits t) (first c) (sym (ap numberSaid (c .before .found .given .1)) ∙ c .before .before .before .first-doubled .ensures)
+
+-- the buckets before it pass
+paths : (c : tie.After-enum-told5) → let found = c .before .before .before in
+    let a = start (told (known found)) .args in
+    pathsTo (a .image .now) (a .n) (a .hashes .now) (first found) ≡ given tt
+paths c = sym (c .before .before .check-buckets .ensures) ∙ ap outcomeSaid (c .enum-told5 .given .1)
 
 check-image-requires : tie.Need-check-image-requires
 check-image-requires c κs = search needs
@@ -159,52 +175,64 @@ returns-4 c =
     absurd (given-refused (countOf full (tagsOf (a .n) (a .image .now)) (a .n)) (numberOf (c .enum-told3 .given .0 .0)) (sym (sym (ap numberSaid (c .enum-told3 .given .1)) ∙ is-count call)))
 
 first-doubled-requires : tie.Need-first-doubled-requires
-first-doubled-requires c κs = let t = told c in (fits t, omega (arith, occupied c, count-le full (start t .args .image .now) (start t .args .n), table t))
+first-doubled-requires c κs = search needs
 
-check-buckets-requires : tie.Need-check-buckets-requires
-check-buckets-requires c κs = let t = told (c .before) in (fits t, each (c .before), c .first-doubled .ensures .within)
-
-enum-known-checked : tie.Need-enum-known-checked
-enum-known-checked c = search needs
-
-returns-5 : tie.Need-returns-5
-returns-5 c =
-    let call = c .before .before .before in
-    let doubled = call .before in
-    let known = doubled .before in
-    let a = start (told known) .args in
-    let m = numberOf (c .before .checked .given .0 .0) in
-    let e = audited-refused (a .image .now) (a .n) (a .hashes .now) (doubled .first-doubled .result) (doubled .first-doubled .ensures) m (sym (call .check-buckets .ensures) ∙ ap outcomeSaid (c .before .checked .given .1)) in
-    sym (by-buckets known ∙ ap (λ (x : Answer (Unit {0})). andThen x (λ _. given (auditOf (a .image .now) (a .n)))) e)
+enum-known-found : tie.Need-enum-known-found
+enum-known-found c = search needs
 
 enum-told-4 : tie.Need-enum-told-4
 enum-told-4 c = search needs
 
+returns-5 : tie.Need-returns-5
+returns-5 c =
+    let call = c .before .before in
+    let t = told (call .before) in
+    let a = start t .args in
+    absurd (given-refused (doubledBefore (a .image .now) (a .n) (a .n)) (numberOf (c .enum-told4 .given .0 .0))
+    (sym (sym (ap numberSaid (c .enum-told4 .given .1)) ∙ call .first-doubled .ensures ∙ first-given (a .image .now) (a .n) (fits t))))
+
+check-buckets-requires : tie.Need-check-buckets-requires
+check-buckets-requires c κs = let t = told (known c) in (fits t, each (known c), is-first c .within)
+
+enum-known-checked : tie.Need-enum-known-checked
+enum-known-checked c = search needs
+
 returns-6 : tie.Need-returns-6
 returns-6 c =
-    let passed = c .before in
-    let call = passed .before .before in
-    let doubled = call .before in
-    let known = doubled .before in
-    let a = start (told known) .args in
-    let e = audited-twice (a .image .now) (a .n) (a .hashes .now) (doubled .first-doubled .result) (doubled .first-doubled .ensures) (c .if2 .taken) (paths passed) in
-    sym (by-buckets known ∙ ap (λ (x : Answer (Unit {0})). andThen x (λ _. given (auditOf (a .image .now) (a .n)))) e)
+    let call = c .before .before .before in
+    let found = call .before in
+    let a = start (told (known found)) .args in
+    let m = numberOf (c .before .checked .given .0 .0) in
+    let e = audited-refused (a .image .now) (a .n) (a .hashes .now) (first found) (is-first found) m (sym (call .check-buckets .ensures) ∙ ap outcomeSaid (c .before .checked .given .1)) in
+    sym (by-buckets (known found) ∙ ap (λ (x : Answer (Unit {0})). andThen x (λ _. given (auditOf (a .image .now) (a .n)))) e)
 
-occupancy-rate-requires : tie.Need-occupancy-rate-requires
-occupancy-rate-requires c κs = let known = c .before .before .before .before .before in let t = told known in (omega (arith, occupied known, count-le full (start t .args .image .now) (start t .args .n), table t), table t .1)
+enum-told-5 : tie.Need-enum-told-5
+enum-told-5 c = search needs
 
 returns-7 : tie.Need-returns-7
 returns-7 c =
-    let else3 = c .before in
-    let passed = else3 .before in
-    let call = passed .before .before in
-    let doubled = call .before in
-    let known = doubled .before in
-    let a = start (told known) .args in
-    let e = audited-passed (a .image .now) (a .n) (a .hashes .now) (doubled .first-doubled .result) (doubled .first-doubled .ensures) (else3 .if2 .left) (paths passed) in
-    let o = occupied known in
+    let passed = c .before in
+    let found = passed .before .before .before in
+    let a = start (told (known found)) .args in
+    let e = audited-twice (a .image .now) (a .n) (a .hashes .now) (first found) (is-first found) (c .if2 .taken) (paths passed) in
+    sym (by-buckets (known found) ∙ ap (λ (x : Answer (Unit {0})). andThen x (λ _. given (auditOf (a .image .now) (a .n)))) e)
+
+occupancy-rate-requires : tie.Need-occupancy-rate-requires
+occupancy-rate-requires c κs =
+    let k = known (c .before .before .before .before) in
+    let t = told k in
+    (omega (arith, occupied k, count-le full (start t .args .image .now) (start t .args .n), table t), table t .1)
+
+returns-8 : tie.Need-returns-8
+returns-8 c =
+    let else2 = c .before in
+    let passed = else2 .before in
+    let found = passed .before .before .before in
+    let a = start (told (known found)) .args in
+    let e = audited-passed (a .image .now) (a .n) (a .hashes .now) (first found) (is-first found) (else2 .if2 .left) (paths passed) in
+    let o = occupied (known found) in
     ap₂ (λ (x : ℕ) (r : Float). given (record { capacity = a .n; occupied = x; rate = r })) o (c .occupancy-rate .ensures ∙ ap (λ (x : ℕ). rateOf x (a .n)) o)
-    ∙ sym (by-buckets known ∙ ap (λ (x : Answer (Unit {0})). andThen x (λ _. given (auditOf (a .image .now) (a .n)))) e)
+    ∙ sym (by-buckets (known found) ∙ ap (λ (x : Answer (Unit {0})). andThen x (λ _. given (auditOf (a .image .now) (a .n)))) e)
 
 pub validate-hashtable-spec : {M : Type 1} → statement M
 validate-hashtable-spec =
@@ -226,10 +254,13 @@ validate-hashtable-spec =
     enum-told-3
     returns-4
     first-doubled-requires
+    enum-known-found
+    enum-told-4
+    returns-5
     check-buckets-requires
     enum-known-checked
-    returns-5
-    enum-told-4
     returns-6
+    enum-told-5
+    returns-7
     occupancy-rate-requires
-    returns-7)
+    returns-8)

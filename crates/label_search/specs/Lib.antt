@@ -1,0 +1,3 @@
+pub mod Labels
+pub mod InnerSearch
+pub mod InnerFilter
