@@ -1,16 +1,16 @@
 -- Sets of numbers: what an added number changes, what the empty set holds, and that a set is no more than its numbers. Assumes nothing.
 use mathlib.Core.Path.{_≡_, refl, sym, ap, ap₂, _∙_, subst}
 use mathlib.Core.Bool.{Bool, true, false, _||_, or-comm, or-false}
-use mathlib.Core.List.{List, [], _∷_}
+use mathlib.Core.List.{List}
 use Prim.Native.Nat.{ℕ, zero, suc, _+_, _*_, _/_, _%_, _^_, _≤_, _<_}
 use native.Mathlib.Decide.{ℕ-discrete, decLt}
 use native.Mathlib.Nat.{mod-eq-of-lt, mod-one}
 use native.Mathlib.Omega.{arith}
 use lib.Dec.{eqb}
 use lib.Bits.{bitOr}
-use lib.ListN.{length, getD, set, length-set, length-replicate, getD-replicate}
+use lib.ListN.{length, getD, length-set, length-replicate, getD-replicate, List·getD-eq-default}
 use lib.Pow.{pow-lt}
-use lib.Seq.{getD-set-same, getD-set-other, ext-getD}
+use lib.Seq.{getD-set-same, getD-set-other, set-out, ext-getD}
 use borrow.Author.Tests.{eq-eqb, ne-eqb, eqb-true, eqb-false}
 use Rattle.page_diff.specs.Diff.{digit, marked}
 use Rattle.page_diff.proofs.Digits.{digit-lt, digit-none, more-digits}
@@ -23,17 +23,6 @@ one-shifted i l =
     let e : 1 * 2 ^ i ≡ 2 ^ i = omega arith in
     mod-eq-of-lt (subst (λ (n : ℕ). n < 2 ^ 64) (sym e) (pow-lt l)) ∙ e
 
--- a list read or changed past its end
-past-getD : (ws : List ℕ) (w : ℕ) → length ws ≤ w → getD ws w 0 ≡ 0
-past-getD [] w l = refl
-past-getD (x ∷ ws) zero l = absurd (omega arith)
-past-getD (x ∷ ws) (suc w) l = past-getD ws w (omega arith)
-
-past-set : (ws : List ℕ) (w x : ℕ) → length ws ≤ w → set ws w x ≡ ws
-past-set [] w x l = refl
-past-set (y ∷ ws) zero x l = absurd (omega arith)
-past-set (y ∷ ws) (suc w) x l = ap (λ (us : List ℕ). y ∷ us) (past-set ws w x (omega arith))
-
 -- a word that is zero holds nothing
 zero-holds : (x i : ℕ) → x ≡ 0 → bit x i ≡ false
 zero-holds x i e = off (ap (λ (y : ℕ). digit y i) e ∙ digit-none i)
@@ -42,11 +31,11 @@ zero-holds x i e = off (ap (λ (y : ℕ). digit y i) e ∙ digit-none i)
 module _ (ws : List ℕ) (i : ℕ) (l : length ws ≤ i / 64) where
   pub past-has : holdsIn ws i ≡ false
   unfolding marked
-  past-has = zero-holds (getD ws (i / 64) 0) (i % 64) (past-getD ws (i / 64) l)
+  past-has = zero-holds (getD ws (i / 64) 0) (i % 64) (List·getD-eq-default ws 0 l)
 
   pub past-add : withNumber ws i ≡ ws
   unfolding withNumber
-  past-add = past-set ws (i / 64) (bitOr (getD ws (i / 64) 0) (2 ^ (i % 64))) l
+  past-add = set-out ws (i / 64) (bitOr (getD ws (i / 64) 0) (2 ^ (i % 64))) l
 
 -- ---- a number added
 module _ (ws : List ℕ) (i : ℕ) where
@@ -106,7 +95,7 @@ none-words k w = go (decLt w k)
   where
     go : Dec (w < k) → getD (noneOf k) w 0 ≡ 0
     go (yes l) = getD-replicate k w 0 0 l
-    go (no l) = past-getD (noneOf k) w (omega (arith, length-replicate {A = ℕ} k 0))
+    go (no l) = List·getD-eq-default (noneOf k) 0 (omega (arith, length-replicate {A = ℕ} k 0))
 
 pub none-has : (k i : ℕ) → holdsIn (noneOf k) i ≡ false
 unfolding marked
