@@ -18,7 +18,7 @@ use Rattle.sync.specs.declared.SyncAnswer.{SyncAnswer as Answer}
 use Rattle.sync.specs.declared.Synced.the-variants.{Done}
 use Rattle.sync.proofs.Refused.{OfStart, table-unfit, lengths-unfit, no-page-of-log, OfChange, reserved-bit, cell-index, bucket-outside, bucket-unfit, no-room, path-crowded, path-closed, start-number, refused-before, refused-at}
 use Rattle.sync.proofs.Promises.{sync-reads-back, sync-replays}
-use Rattle.bitbox.specs.Words.{writerOf, writerWords, syncWords, SyncExport}
+use Rattle.bitbox.specs.Words.{writerOf, writerWords, syncStart, syncWords, SyncExport}
 use Rattle.bitbox.specs.declared.SyncAnswer.{SyncAnswer}
 use Rattle.bitbox.specs.declared.WriterState.{WriterState}
 
@@ -56,7 +56,7 @@ module _ (n : ℕ) (m : Mem) (pages : List ℕ) (cs : List Change) (sync : ℕ) 
           let z : r .refusal ≡ k = ap (λ (a : SyncAnswer). a .refusal) (x .answer) ∙ ap (λ (s : SyncSaid). syncWords s (writerWords (syncWriter n m pages cs sync (writerOf w))) .refusal) e in
           absurd (no-change k (refused-at n m pages cs sync j k e .number) (sym z ∙ ok))
 
-  pub exported-sync : SyncPromise n m pages cs sync (writerOf w) answered after
+  pub exported-sync : SyncPromise (syncStart n w sync) m pages cs answered after
   exported-sync =
       record {
         says = sym done-said;
@@ -72,7 +72,7 @@ module _ (n : ℕ) (m : Mem) (pages : List ℕ) (cs : List Change) (sync : ℕ) 
         at = startSize + length (recordsOf (entriesOf (startMem m sync) pages cs 0 (startState n m)));
         stop = given tt;
       }
-  exported-reads-back = sync-reads-back n m pages cs sync (writerOf w) answered after exported-sync (r .occupied) (r .length) refl
+  exported-reads-back = sync-reads-back (syncStart n w sync) m pages cs answered after exported-sync (r .occupied) (r .length) refl
 
   pub exported-replays : (table : List ℕ) → imageFits n (length table) ≡ true → replayAnswer n table (take (r .length) (after .log)) sync (hashesOf cs) ≡ given applied
-  exported-replays = sync-replays n m pages cs sync (writerOf w) answered after exported-sync (r .occupied) (r .length) refl
+  exported-replays = sync-replays (syncStart n w sync) m pages cs answered after exported-sync (r .occupied) (r .length) refl

@@ -19,6 +19,7 @@ use Rattle.sync.specs.Change.{Wide, Mem, effectOf, memBy, stateBy, pageNumber}
 use Rattle.sync.specs.Sync.{SyncSaid, saidDone, saidRefused, saidRefusedAt, syncSays, syncWriter, syncMem, widthsBy}
 use Rattle.sync.specs.declared.Change.{Change}
 use Rattle.sync.specs.declared.SyncState.{SyncState}
+use Rattle.sync.specs.declared.SyncStart.{SyncStart}
 use Rattle.recover.specs.Replay.{Did, nothing, stale, applied, Went, cleared, updated, atEnd}
 use Rattle.rehash.specs.Marker.{Counts}
 use Rattle.rehash.specs.Pending.{Left, tidy, updateMetaThenTidy}
@@ -164,6 +165,10 @@ stateWords s = stateAs (s .n) (writerWords (s .writer)) (s .occupied)
 abbrev pub stepWords : Answer (ℕ × ℕ) → StepState → StepAnswer
 stepWords (given p) s = record { refusal = 0; bucket = p .0; page = p .1; state = s }
 stepWords (refused k) s = record { refusal = k; bucket = 0; page = 0; state = s }
+
+-- what a sync begins with
+abbrev pub syncStart : ℕ → WriterState → ℕ → SyncStart
+syncStart n w sync = record { n = n; «sync_seqn» = sync; writer = writerOf w }
 
 -- a sync: full buckets and the log's length; a refusal; or a refusal at a change
 abbrev pub synced : ℕ → ℕ → ℕ → ℕ → ℕ → WriterState → SyncAnswer

@@ -25,7 +25,7 @@ ghost use Rattle.rehash.specs.Marker.{writeAnswer as writeMarkerAnswer, written
 ghost use Rattle.rehash.specs.Pending.{pendingAnswer, decisionSaid};
 ghost use Rattle.rehash.specs.Growth.{growthAnswer, growthImage, grownSaid};
 ghost use Rattle.validate.specs.Audit.{auditAnswer, auditedSaid};
-ghost use Rattle.bitbox.specs.Words.{refusalOf, words, outcomeWords, numberWords, truthWords, probeWords, lookupWords, entryRefusal, entryKind, entryBucket, Read, headWords, writerOf, writerWords, writtenWords, finishedWords, stateOf, stateWords, stepWords, syncWords, StepExport, SyncExport, replayWords, wentWords, markerWords, leftWords, growthWords, auditWords, pair};
+ghost use Rattle.bitbox.specs.Words.{refusalOf, words, outcomeWords, numberWords, truthWords, probeWords, lookupWords, entryRefusal, entryKind, entryBucket, Read, headWords, writerOf, writerWords, writtenWords, finishedWords, stateOf, stateWords, stepWords, syncStart, syncWords, StepExport, SyncExport, replayWords, wentWords, markerWords, leftWords, growthWords, auditWords, pair};
 use answers::Number;
 use answers::Outcome;
 use answers::Refusal;
@@ -982,6 +982,16 @@ fn of_state(st: sync::SyncState) -> StepState
     }
 }
 
+fn start_of(n: usize, w: WriterState, sync_seqn: u32) -> sync::SyncStart
+    ensures { λ r. ⌜ r ≡ syncStart n w «sync_seqn» ⌝ }
+{
+    sync::SyncStart {
+        n,
+        sync_seqn,
+        writer: writer_of(w),
+    }
+}
+
 // A list of changes taken into the tags and logged: 1, 2, 13, then at a change as one step.
 #[no_mangle]
 pub extern "C" fn bitbox_sync(
@@ -997,17 +1007,8 @@ pub extern "C" fn bitbox_sync(
 ) -> SyncAnswer
     ensures { λ r. ⌜ SyncExport n (memOf (now (tags .entry)) (now (marks .entry)) (now (cells .entry)) (now (log .entry))) (now (pages .entry)) (now (changes .entry)) «sync_seqn» w r (memOf (now (tags .exit)) (now (marks .exit)) (now (cells .exit)) (now (log .exit))) ⌝ }
 {
-    of_sync(sync::sync(
-        tags,
-        marks,
-        cells,
-        log,
-        pages,
-        changes,
-        n,
-        writer_of(w),
-        sync_seqn,
-    ))
+    let start = start_of(n, w, sync_seqn);
+    of_sync(sync::sync(tags, marks, cells, log, pages, changes, start))
 }
 
 // ---- replay

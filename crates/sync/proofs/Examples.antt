@@ -20,13 +20,13 @@ use Rattle.recover.specs.Places.{withHashes}
 use Rattle.recover.specs.Replay.{applied, allInside, updatesIn, checkAnswer, replayTests, replayAnswer, replayImage, stepsOf, stepImage}
 use Rattle.sync.proofs.Labels.{Labelled, elsewhere, step-labelled, replay-labelled}
 use Rattle.sync.specs.Change.{Mem, memOf, whereOf, placeOf, cleared, effectOf, memBy, stateOf, stateBy, pageNumber, takenSaid}
-use Rattle.sync.specs.Sync.{changeAt, changeMem, allOf, memAll, through, refusedAt, walkSaid, beforeChanges, saidDone, saidRefused, saidRefusedAt, syncSays, syncMem, syncWriter, syncedSaid}
+use Rattle.sync.specs.Sync.{changeAt, changeMem, allOf, memAll, through, refusedAt, runSaid, on, unbegun, stopped, beforeChanges, saidDone, saidRefused, saidRefusedAt, syncSays, syncMem, syncWriter, syncedSaid}
 use Rattle.sync.specs.declared.Change.{Change}
 use Rattle.sync.specs.declared.Where.{Where}
 use Rattle.sync.specs.declared.Where.the-variants.{Known, Fresh as FreshPage, Cell}
 use Rattle.sync.specs.declared.SyncState.{SyncState}
 use Rattle.sync.specs.declared.Taken.the-variants as taken
-use Rattle.sync.specs.declared.Walk.the-variants as walk
+use Rattle.sync.specs.declared.Run.the-variants as run
 use Rattle.sync.specs.declared.Synced.the-variants as synced
 
 -- three buckets with these tags, where the path of hash 0 is 0 1 for ever; one tag page, whose mark is 9; some cells; a
@@ -166,7 +166,7 @@ pub placed : map placeOf (Known 7 ∷ FreshPage ∷ Cell 7 ∷ []) ≡ record { 
 placed = refl
 
 -- each case of the code's answers
-pub said : (map takenSaid (taken.At 1 2 ∷ taken.Refused BucketUnfit ∷ []) ≡ given (1, 2) ∷ refused 14 ∷ []) × (map walkSaid (walk.Through 2 ∷ walk.RefusedAt 1 BucketOutside ∷ []) ≡ through 2 ∷ refusedAt 1 9 ∷ [])
+pub said : (map takenSaid (taken.At 1 2 ∷ taken.Refused BucketUnfit ∷ []) ≡ given (1, 2) ∷ refused 14 ∷ []) × (map runSaid (run.On (stateOf 3 (Open 5) 2) ∷ run.Refused NoRoom (Open 77) ∷ run.RefusedAt 1 BucketOutside ∷ []) ≡ on (stateOf 3 (Open 5) 2) ∷ unbegun 13 (Open 77) ∷ stopped 1 9 ∷ [])
     × (map syncedSaid (synced.Done 2 4096 ∷ synced.Refused LengthUnfit ∷ synced.RefusedAt 1 NoRoom ∷ []) ≡ saidDone 2 4096 ∷ saidRefused 2 ∷ saidRefusedAt 1 13 ∷ [])
 said = (refl, refl, refl)
 

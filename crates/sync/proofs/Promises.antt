@@ -22,6 +22,7 @@ use Rattle.sync.specs.Sync.{pageOf, Came, through, refusedAt, orRest, ch
 use Rattle.sync.specs.declared.Change.{Change}
 use Rattle.sync.specs.declared.SyncState.{SyncState}
 use Rattle.sync.specs.declared.SyncAnswer.{SyncAnswer}
+use Rattle.sync.specs.declared.SyncStart.{SyncStart}
 use Rattle.sync.specs.declared.Synced.{Synced}
 use Rattle.sync.specs.declared.Synced.the-variants as synced
 use Rattle.sync.proofs.Accepted.{after-cleared, after-updated, after-allocated, accepted-change}
@@ -75,24 +76,30 @@ all-hashed pages (c ∷ cs) m j st i e = go (effectOf st m (pageOf pages j) c) r
         ∙ ap₂ _+_ (sym (one-hash st m (pageOf pages j) c x h)) (rest (memBy (given x) st m (pageOf pages j) c) (j + 1) (stateBy (given x) st c) i (rw h at q)))
 
 -- ---- by its answer: refused, and not at a change
-module _ (n : ℕ) (m : Mem) (pages : List ℕ) (cs : List Change) (sync : ℕ) (w : Writer) (r : SyncAnswer) (after : Mem) (p : SyncPromise n m pages cs sync w r after) where
+module _ (s : SyncStart) (m : Mem) (pages : List ℕ) (cs : List Change) (r : SyncAnswer) (after : Mem) (p : SyncPromise s m pages cs r after) where
+  abbrev n : ℕ
+  n = s .n
+
+  abbrev sync : ℕ
+  sync = s .«sync_seqn»
+
   -- what it said, where the answer is known
   said : (x : Synced) → r .synced ≡ x → syncSays n m pages cs sync ≡ syncedSaid x
   said x e = sym (p .says) ∙ ap syncedSaid e
 
   -- "A refusal answers its number and leaves all lent memory": 1, 2 or begin's 13, with the writer as it was
-  pub sync-refused-leaves : (why : Refusal) → r .synced ≡ synced.Refused why → OfStart (numberOf why) × (after ≡ m) × (r .writer ≡ w)
+  pub sync-refused-leaves : (why : Refusal) → r .synced ≡ synced.Refused why → OfStart (numberOf why) × (after ≡ m) × (r .writer ≡ s .writer)
   sync-refused-leaves why e =
       let b = refused-before n m pages cs sync (numberOf why) (said (synced.Refused why) e) in
-      (start-number n m pages (length cs) (numberOf why) (b .0), p .memory ∙ b .1, p .writer ∙ b .2 w)
+      (start-number n m pages (length cs) (numberOf why) (b .0), p .memory ∙ b .1, p .writer ∙ b .2 (s .writer))
 
   -- "a sync refused at change j keeps the effects of changes before j and its marks, answers j, and its writer becomes fresh": its number is one
   -- of a change's, and the memory is that of the first j changes
   pub sync-refused-at : (j : ℕ) (why : Refusal) → r .synced ≡ synced.RefusedAt j why
       → (j < length cs) × OfChange (numberOf why) × (came n m pages (take j cs) sync .came ≡ through j) × (after ≡ left n m pages (take j cs) sync) × (r .writer ≡ Fresh)
   sync-refused-at j why e =
-      let s = refused-at n m pages cs sync j (numberOf why) (said (synced.RefusedAt j why) e) in
-      (s .within, s .number, s .came-to, p .memory ∙ s .memory, p .writer ∙ s .fresh w)
+      let q = refused-at n m pages cs sync j (numberOf why) (said (synced.RefusedAt j why) e) in
+      (q .within, q .number, q .came-to, p .memory ∙ q .memory, p .writer ∙ q .fresh (s .writer))
 
   -- ---- by its answer: done
   module _ (o len : ℕ) (done : r .synced ≡ synced.Done o len) where

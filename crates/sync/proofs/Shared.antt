@@ -2,6 +2,7 @@
 --     LentShared       what the holder keeps while the slice is lent: the lender's part at κ′, and its own borrow at κ, open, with both halves of its ghost variable
 --     lends-shared     own (the `&κ mut [T]` ((b, o), γ, ys)) ∗ [κ]_q  ⊢ ⇛ ∃ γ₁. own (the `&κ′ [T]` ((b, o), γ₁, ys)) ∗ LentShared
 --     shared-back      given `Room`:  [†κ′] ∗ LentShared  ⊢ ⇛ (own (the `&κ mut [T]` ((b, o), γ, ys)) ∗ [κ]_q)
+--     lent-shared, back-shared     the two as steps of a walk, with a new lifetime for the call
 -- Assumes `Given`.
 use mathlib.Core.Path.{refl}
 use Prim.Native.Nat.{ℕ}
@@ -15,8 +16,8 @@ use base.Logic.{ent, sep, ex}
 use base.Fml.{Lft, GName, Share, Fml, fsep, flft, fdead, fobs, fauth, flent, fobor}
 use prog.Wp.{Heap}
 use ghost.Atoms.{Atoms, sem}
-use types.Kit.{Given, ‵, _⊛_, some, later, _$_, _∵_, !, qed, move, use1, drop, split, pick, fsplit, fjoin, feqI, frame, await, updating, now as at-once, show, done}
-use types.Tokens.{lent-back}
+use types.Kit.{Given, Item, Goal, Soaks, Seq, Step, step, use2, ‵, _⊛_, some, later, _$_, _∵_, !, qed, move, use1, drop, split, pick, fsplit, fjoin, feqI, frame, await, updating, now as at-once, show, done}
+use types.Tokens.{lent-back, lft-new, lft-end}
 use types.Share.{arr-parts}
 use denote.RattleType.{RattleType}
 use denote.Shadow.{pureL, pureI}
@@ -56,3 +57,23 @@ module _ (R : RattleType) (κ κ′ : Lft) (q : Share) (γ : GName) (b o : ℕ) 
         -- [the elements; the open borrow at κ, with obs γ and auth γ]
         move ! (1 ∷ []) $ fsplit ! $ move ! (1 ∷ []) $ fsplit ! $ move ! (3 ∷ 2 ∷ 0 ∷ 1 ∷ []) $ closes-slice ! tt R ys ys refl b o $ at-once ! $
         fjoin ! $ pureI ! (at-slice R (at-list γ) vals) (tt, (tt, tt)) (refl, room) $ fjoin ! $ done !
+
+abbrev here : (R : RattleType) → GName → ℕ → ℕ → List (R .Denot) → RefT (List (R .Denot))
+here R δ b o ys = record { ptr = (b, o); name = δ; now = ys }
+
+abbrev its : (R : RattleType) → ℕ → ℕ → List (R .Denot) → List Val
+its R b o ys = sliceVal (b, o) (length ys) ∷ []
+
+module _ {M : Type 1} {𝓤 : URA M} {H : Heap 𝓤} {A : Atoms 𝓤} {K : Type 0} {W : Given 𝓤 H A} {Γ : List (Item 𝓤)} {G : Goal 𝓤 H} where
+  pub lent-shared : K → Soaks G → (R : RattleType) (κ : Lft) (q : Share) (γ : GName) (b o : ℕ) (ℓ ℓ′ : Lifetime) (ys : List (R .Denot))
+      → ((ν : ℕ) (δ : GName) → Seq K W (‵ (ShrSlice ℓ′ (ν ∷ []) R .own (here R δ b o ys) (its R b o ys)) ∷ ‵ (flft (ν ∷ []) fullShare) ∷ ‵ (LentShared R κ (ν ∷ []) q γ b o ys) ∷ Γ) G)
+      → Seq K W (‵ (MutSlice ℓ κ R .own (here R γ b o ys) (its R b o ys)) ∷ ‵ (flft κ q) ∷ Γ) G
+  lent-shared t a R κ q γ b o ℓ ℓ′ ys k =
+      lft-new t a (λ ν. move t (1 ∷ 2 ∷ []) $
+      use2 W (later (some (λ (δ : GName). ‵ (ShrSlice ℓ′ (ν ∷ []) R .own (here R δ b o ys) (its R b o ys)) ⊛ ‵ (LentShared R κ (ν ∷ []) q γ b o ys)))) (lends-shared R κ (ν ∷ []) q γ b o ys 𝓤 H A W ℓ ℓ′) $
+      await t a $ pick t (λ δ. split t $ move t (0 ∷ 2 ∷ 1 ∷ []) $ k ν δ))
+
+  pub back-shared : K → Soaks G → (R : RattleType) (κ : Lft) (q : Share) (γ : GName) (b o : ℕ) (ℓ ℓ′ : Lifetime) (ys : List (R .Denot)) → Room R (length ys) → (ν : ℕ)
+      → Step K W (‵ (MutSlice ℓ κ R .own (here R γ b o ys) (its R b o ys)) ∷ ‵ (flft κ q) ∷ Γ) G (‵ (flft (ν ∷ []) fullShare) ∷ ‵ (LentShared R κ (ν ∷ []) q γ b o ys) ∷ Γ) G
+  back-shared t a R κ q γ b o ℓ ℓ′ ys room ν = step (λ s.
+      lft-end t a $ use2 W (later (‵ (MutSlice ℓ κ R .own (here R γ b o ys) (its R b o ys)) ⊛ ‵ (flft κ q))) (shared-back R κ (ν ∷ []) q γ b o ys 𝓤 H A W ℓ ℓ′ room) $ await t a $ split t $ s)

@@ -2,8 +2,9 @@
 use mathlib.Core.Path.{_≡_, refl, sym, ap, ap₂, _∙_}
 use mathlib.Core.Bool.{Bool, true, false, cond}
 use mathlib.Core.List.{List, [], _∷_}
-use Prim.Native.Nat.{ℕ, _+_, _*_, _/_, _-_, _≤_, _<_}
+use Prim.Native.Nat.{ℕ, _+_, _*_, _/_, _-_, _^_, _≤_, _<_}
 use native.Mathlib.Omega.{arith}
+use mathlib.Core.Logic.{⊎-elim}
 use lib.Dec.{ltb, eqb}
 use lib.ListN.{length, take, drop}
 use types.Run.{OneOf}
@@ -19,22 +20,23 @@ use Rattle.answers.specs.declared.Outcome.{Outcome}
 use Rattle.answers.specs.declared.Outcome.the-variants as outcome
 use Rattle.answers.proofs.Outcome as OutcomeT
 use Rattle.answers.proofs.Laws.{given-refused, refused-one}
-use Rattle.ht_file.specs.Places.{tagsFit, tagPages, ifTags}
+use Rattle.ht_file.specs.Places.{tagsFit, tagPages, ifTable, ifTags}
+use Rattle.ht_file.proofs.Laws.{table-unfit}
 use Rattle.meta_map.specs.Tags.{full, countOf}
 use Rattle.wal.specs.Log.{startRecord, startSize}
-use Rattle.wal.specs.Writer.{openAt, logBy, writerBy, beginAnswer, beginLog, beginWriter, finishAnswer, finishLog, finishWriter}
+use Rattle.wal.specs.Writer.{openAt, logBy, writerBy, beginAnswer, beginLog, beginWriter}
 use Rattle.wal.specs.declared.Writer.{Writer}
 use Rattle.wal.specs.declared.Writer.the-variants.{Fresh}
 use Rattle.sync.specs.Change.{Mem, memOf, Effect, effectOf, memBy, stateBy, pageNumber, takenSaid}
-use Rattle.sync.specs.Sync.{pageOf, Came, through, refusedAt, cameBy, changeAt, changeMem, walkSaid, walkedSaid, beforeChanges, startMem, startState, startIf, keptIf, saidFinish, saidBy, logAfter, writerAfter}
+use Rattle.sync.specs.Sync.{pageOf, cameBy, Going, on, unbegun, stopped, runSaid, goingBy, changeAt, changeMem, changeGoing, changeLeft, beforeChanges, startMem, startState, startGoing, keptIf}
 use Rattle.sync.specs.declared.Change.{Change}
 use Rattle.sync.specs.declared.SyncState.{SyncState}
 use Rattle.sync.specs.declared.Taken.{Taken}
 use Rattle.sync.specs.declared.Taken.the-variants as taken
 use Rattle.sync.proofs.Taken as TakenT
-use Rattle.sync.specs.declared.Walk.{Walk}
-use Rattle.sync.specs.declared.Walk.the-variants as walk
-use Rattle.sync.proofs.Walk as WalkT
+use Rattle.sync.specs.declared.Run.{Run}
+use Rattle.sync.specs.declared.Run.the-variants as run
+use Rattle.sync.proofs.Run as RunT
 
 -- the full tags of tags that fit
 pub count-given : (tags : List ℕ) (n : ℕ) → tagsFit n (length tags) ≡ true → ifTags tags n (given (countOf full tags n)) ≡ given (countOf full tags n)
@@ -53,28 +55,37 @@ module _ (pages : List ℕ) (j : ℕ) where
   page-none h = ap (λ (t : Bool). cond t (take 4096 (drop (4096 * j) pages)) []) (le-ltb j (length pages / 4096) h)
 
 -- ---- change j told on from its step
+-- a sync that was refused stays as it is
+pub change-none : (m : Mem) (pages : List ℕ) (c : Change) (j : ℕ) (r : Run) → OneOf (1 ∷ 2 ∷ []) (tagOf RunT.the-type r)
+    → (runSaid r ≡ changeGoing m pages c j (runSaid r)) × (m ≡ changeLeft m pages c j (runSaid r))
+change-none m pages c j (run.On st) o = absurd (⊎-elim (λ (e : 0 ≡ 1). omega arith) (λ (e : 0 ≡ 2). omega arith) o)
+change-none m pages c j (run.Refused r w) o = (refl, refl)
+change-none m pages c j (run.RefusedAt i r) o = (refl, refl)
+
 module _ (st : SyncState) (m : Mem) (pages page : List ℕ) (c : Change) (j : ℕ) (e : page ≡ pageOf pages j) where
-  refused-came : (a : Answer Effect) (k : ℕ) → refused k ≡ pageNumber st a → refusedAt j k ≡ cameBy a j
-  refused-came (given x) k h = absurd (given-refused _ k (sym h))
-  refused-came (refused i) k h = ap (refusedAt j) (refused-one k i h)
+  refused-going : (a : Answer Effect) (k : ℕ) (s : SyncState) → refused k ≡ pageNumber st a → stopped j k ≡ goingBy (cameBy a j) s
+  refused-going (given x) k s h = absurd (given-refused _ k (sym h))
+  refused-going (refused i) k s h = ap (stopped j) (refused-one k i h)
 
-  given-came : (a : Answer Effect) (t : Taken) → OneOf (0 ∷ []) (tagOf TakenT.the-type t) → takenSaid t ≡ pageNumber st a → through j ≡ cameBy a j
-  given-came a (taken.Refused r) o h = absurd (omega arith)
-  given-came (given x) (taken.At b p) o h = refl
-  given-came (refused k) (taken.At b p) o h = absurd (given-refused _ k h)
+  given-going : (a : Answer Effect) (t : Taken) (s : SyncState) → OneOf (0 ∷ []) (tagOf TakenT.the-type t) → takenSaid t ≡ pageNumber st a → on s ≡ goingBy (cameBy a j) s
+  given-going a (taken.Refused r) s o h = absurd (omega arith)
+  given-going (given x) (taken.At b p) s o h = refl
+  given-going (refused k) (taken.At b p) s o h = absurd (given-refused _ k h)
 
-  module _ (t : Taken) (s : SyncState) (said : takenSaid t ≡ pageNumber st (effectOf st m page c)) (state : s ≡ stateBy (effectOf st m page c) st c) where
-    pub change-refused : (r : Refusal) → t ≡ taken.Refused r → walkedSaid record { walk = walk.RefusedAt j r; state = s } ≡ changeAt m pages c j st
+  -- the change, on its own page
+  abbrev there : List ℕ → Going
+  there p = goingBy (cameBy (effectOf st m p c) j) (stateBy (effectOf st m p c) st c)
+
+  module _ (t : Taken) (said : takenSaid t ≡ pageNumber st (effectOf st m page c)) where
+    pub change-refused : (r : Refusal) → t ≡ taken.Refused r → stopped j (numberOf r) ≡ changeGoing m pages c j (on st)
     unfolding changeAt
     change-refused r h =
-        ap₂ (λ (x : Came) (y : SyncState). record { came = x; state = y }) (refused-came (effectOf st m page c) (numberOf r) (sym (ap takenSaid h) ∙ said)) state
-        ∙ ap (λ (p : List ℕ). record { came = cameBy (effectOf st m p c) j; state = stateBy (effectOf st m p c) st c }) e
+        refused-going (effectOf st m page c) (numberOf r) (stateBy (effectOf st m page c) st c) (sym (ap takenSaid h) ∙ said) ∙ ap there e
 
-    pub change-given : OneOf (0 ∷ []) (tagOf TakenT.the-type t) → walkedSaid record { walk = walk.Through j; state = s } ≡ changeAt m pages c j st
+    pub change-given : (s : SyncState) → s ≡ stateBy (effectOf st m page c) st c → OneOf (0 ∷ []) (tagOf TakenT.the-type t) → on s ≡ changeGoing m pages c j (on st)
     unfolding changeAt
-    change-given o =
-        ap₂ (λ (x : Came) (y : SyncState). record { came = x; state = y }) (given-came (effectOf st m page c) t o said) state
-        ∙ ap (λ (p : List ℕ). record { came = cameBy (effectOf st m p c) j; state = stateBy (effectOf st m p c) st c }) e
+    change-given s state o =
+        given-going (effectOf st m page c) t s o said ∙ ap (goingBy (cameBy (effectOf st m page c) j)) state ∙ ap there e
 
   pub change-mem : (x : Mem) → x ≡ memBy (effectOf st m page c) st m page c → x ≡ changeMem m pages c j st
   unfolding changeMem
@@ -88,9 +99,9 @@ module _ (n : ℕ) (t k l pages : List ℕ) (count : ℕ) where
   abbrev before : Answer (Unit {0})
   before = beforeChanges n m pages count
 
-  pub start-unfit : tagsFit n (length t) ≡ false → before ≡ refused 1
+  pub start-unfit : (j : ℕ) → ifTable {A = Unit {0}} (tagsFit n (length t)) (given tt) ≡ refused j → before ≡ refused j
   unfolding beforeChanges
-  start-unfit h = simp h
+  start-unfit j e = sym (table-unfit (tagsFit n (length t)) j _ e)
 
   pub start-pages : tagsFit n (length t) ≡ true → (length pages ≡ 4096 * count → ⊥) → before ≡ refused 2
   unfolding beforeChanges
@@ -104,17 +115,20 @@ module _ (n : ℕ) (t k l pages : List ℕ) (count : ℕ) where
   unfolding beforeChanges
   start-begin h p q = simp (h, eq-eqb (length pages) (4096 * count) p, eq-eqb (length k) (tagPages n) q)
 
-  module _ (sync : ℕ) where
-    abbrev pub Begins : Answer SyncState → Mem → Type 0
-    Begins said x = (said ≡ startIf before (startState n m)) × (x ≡ keptIf before m (startMem m sync))
+  module _ (sync : ℕ) (w : Writer) (wide : sync < 2 ^ 32) where
+    abbrev pub Begins : Going → Mem → Type 0
+    Begins g x = (g ≡ startGoing before (startState n m) w) × ((x ≡ keptIf before m (startMem m sync)) × (sync < 2 ^ 32))
 
-    pub begin-refused : (j : ℕ) → before ≡ refused j → Begins (refused j) m
-    begin-refused j h = (sym (ap (λ (a : Answer (Unit {0})). startIf a (startState n m)) h), sym (ap (λ (a : Answer (Unit {0})). keptIf a m (startMem m sync)) h))
+    pub begin-refused : (j : ℕ) → before ≡ refused j → Begins (unbegun j w) m
+    begin-refused j h = (
+      sym (ap (λ (a : Answer (Unit {0})). startGoing a (startState n m) w) h),
+      (sym (ap (λ (a : Answer (Unit {0})). keptIf a m (startMem m sync)) h), wide),
+    )
 
-    pub begin-given : (s : SyncState) (x : Mem) → before ≡ given tt → s ≡ startState n m → x ≡ startMem m sync → Begins (given s) x
+    pub begin-given : (s : SyncState) (x : Mem) → before ≡ given tt → s ≡ startState n m → x ≡ startMem m sync → Begins (on s) x
     begin-given s x h a b = (
-      ap given a ∙ sym (ap (λ (y : Answer (Unit {0})). startIf y (startState n m)) h),
-      b ∙ sym (ap (λ (y : Answer (Unit {0})). keptIf y m (startMem m sync)) h),
+      ap on a ∙ sym (ap (λ (y : Answer (Unit {0})). startGoing y (startState n m) w) h),
+      (b ∙ sym (ap (λ (y : Answer (Unit {0})). keptIf y m (startMem m sync)) h), wide),
     )
 
 -- begin's answer: a refused one leaves the log, an accepted one opens the writer
@@ -128,26 +142,3 @@ module _ (l : List ℕ) (sync : ℕ) where
 
   pub begun-open : beginAnswer l ≡ given tt → beginWriter l Fresh ≡ openAt startSize
   begun-open h = ap (λ (a : Answer (Unit {0})). writerBy a Fresh (openAt startSize)) h
-
--- ---- the end, after all changes
-module _ (w : Walk) (o : OneOf (0 ∷ []) (tagOf WalkT.the-type w)) (st : SyncState) (l : List ℕ) where
-  pub end-said : saidBy (walkSaid w) st (memOf [] [] [] l) ≡ saidFinish (finishAnswer l (st .writer)) (st .occupied)
-  end-said = go w o
-    where
-      go : (v : Walk) → OneOf (0 ∷ []) (tagOf WalkT.the-type v) → saidBy (walkSaid v) st (memOf [] [] [] l) ≡ saidFinish (finishAnswer l (st .writer)) (st .occupied)
-      go (walk.Through j) o = refl
-      go (walk.RefusedAt j r) o = absurd (omega arith)
-
-  pub end-writer : writerAfter (walkSaid w) st (memOf [] [] [] l) ≡ finishWriter l (st .writer)
-  end-writer = go w o
-    where
-      go : (v : Walk) → OneOf (0 ∷ []) (tagOf WalkT.the-type v) → writerAfter (walkSaid v) st (memOf [] [] [] l) ≡ finishWriter l (st .writer)
-      go (walk.Through j) o = refl
-      go (walk.RefusedAt j r) o = absurd (omega arith)
-
-  pub end-log : logAfter (walkSaid w) st (memOf [] [] [] l) ≡ finishLog l (st .writer)
-  end-log = go w o
-    where
-      go : (v : Walk) → OneOf (0 ∷ []) (tagOf WalkT.the-type v) → logAfter (walkSaid v) st (memOf [] [] [] l) ≡ finishLog l (st .writer)
-      go (walk.Through j) o = refl
-      go (walk.RefusedAt j r) o = absurd (omega arith)

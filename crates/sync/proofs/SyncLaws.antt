@@ -1,118 +1,88 @@
--- Laws of the whole sync, as its walk needs them: where it is refused before the first change, and where the changes are walked.
--- The beginning and the end are lent less than the whole memory: what they say of the rest does not matter. Assumes nothing.
-use mathlib.Core.Path.{_≡_, refl, sym, ap, _∙_}
+-- The whole sync, out of what its start, its changes and its end promise. The start is lent no cells and the end the log alone: what they say of
+-- the rest does not matter. Assumes nothing.
+use mathlib.Core.Path.{_≡_, refl, sym, ap, _∙_, subst}
 use mathlib.Core.List.{List, []}
-use Prim.Native.Nat.{ℕ}
+use Prim.Native.Nat.{ℕ, _<_, _^_}
 use lib.ListN.{length}
 use Rattle.answers.specs.Answers.{Answer, given, refused}
-use Rattle.answers.proofs.Laws.{given-refused, refused-one, given-one}
-use Rattle.wal.specs.declared.Writer.{Writer}
-use Rattle.sync.specs.Change.{Mem, memOf}
-use Rattle.sync.specs.Sync.{Came, through, refusedAt, CameTo, allOf, memAll, beforeChanges, startMem, startState, startIf, keptIf, saidIf, SyncSaid, saidRefused, saidBy, logAfter, writerAfter, syncSays, syncMem, syncWriter}
+use Rattle.sync.specs.Change.{AllWide, Mem, memOf}
+use Rattle.sync.specs.Sync.{beforeChanges, startMem, startState, startGoing, keptIf, saidIf, came, left, Going, on, unbegun, goingBy, endSaid, endLog, endWriter, SyncSaid, saidDone, saidRefused, saidRefusedAt, syncSays, syncMem, syncWriter, widthsBy, SyncPromise, syncedSaid, BeginPromise, EndPromise, runSaid}
 use Rattle.sync.specs.declared.Change.{Change}
-use Rattle.sync.specs.declared.SyncState.{SyncState}
-
--- the memory of the end, which is lent the log alone
-abbrev pub log-only : List ℕ → Mem
-log-only l = memOf [] [] [] l
+use Rattle.sync.specs.declared.Run.{Run}
+use Rattle.sync.specs.declared.SyncStart.{SyncStart}
+use Rattle.sync.specs.declared.SyncAnswer.{SyncAnswer}
+use Rattle.sync.proofs.WalkLaws.{goesOn, goes-on, goes-unbegun}
 
 -- the memory with these cells
 abbrev with-cells : List ℕ → Mem → Mem
 with-cells c x = memOf (x .tags) (x .marks) c (x .log)
 
-was-refused : (a : Answer (Unit {0})) (st : SyncState) (j : ℕ) → refused j ≡ startIf a st → a ≡ refused j
-was-refused (given u) st j e = absurd (given-refused st j (sym e))
-was-refused (refused k) st j e = sym e′
-  where
-    e′ : _≡_ {A = Answer (Unit {0})} (refused j) (refused k)
-    e′ = ap refused (refused-one j k e)
+-- the widths, whatever is said
+said-widths : (x : SyncSaid) (cs : List Change) (sync : ℕ) → AllWide cs → sync < 2 ^ 32 → widthsBy x cs sync
+said-widths (saidDone o l) cs sync w h = (w, h)
+said-widths (saidRefused k) cs sync w h = tt
+said-widths (saidRefusedAt j k) cs sync w h = tt
 
-was-given : (a : Answer (Unit {0})) (st st′ : SyncState) → given st′ ≡ startIf a st → (a ≡ given tt) × (st′ ≡ st)
-was-given (given u) st st′ e = (refl, given-one st′ st e)
-was-given (refused k) st st′ e = absurd (given-refused st′ k e)
-
--- the end reads the log and nothing else
-said-log : (c : Came) (st : SyncState) (m : Mem) → saidBy c st m ≡ saidBy c st (log-only (m .log))
-said-log (through j) st m = refl
-said-log (refusedAt j k) st m = refl
-
-writer-log : (c : Came) (st : SyncState) (m : Mem) → writerAfter c st m ≡ writerAfter c st (log-only (m .log))
-writer-log (through j) st m = refl
-writer-log (refusedAt j k) st m = refl
-
-log-log : (c : Came) (st : SyncState) (m : Mem) → logAfter c st m ≡ logAfter c st (log-only (m .log))
-log-log (through j) st m = refl
-log-log (refusedAt j k) st m = refl
-
-module _ (n : ℕ) (t k c l pages : List ℕ) (cs : List Change) (sync : ℕ) (w : Writer) where
+module _ (s : SyncStart) (t k c l pages : List ℕ) (cs : List Change) where
   abbrev m : Mem
   m = memOf t k c l
 
-  -- the memory of the beginning, which is lent no cells
-  abbrev pub lent : Mem
+  abbrev n : ℕ
+  n = s .n
+
+  abbrev sync : ℕ
+  sync = s .«sync_seqn»
+
+  -- the memory of the start, which is lent no cells
+  abbrev lent : Mem
   lent = memOf t k [] l
 
-  abbrev before : Answer (Unit {0})
-  before = beforeChanges n lent pages (length cs)
+  -- where the changes came to from the start, and what they left
+  abbrev g′ : Going
+  g′ = goingBy (came n m pages cs sync .came) (came n m pages cs sync .state)
 
-  before-same : before ≡ beforeChanges n m pages (length cs)
-  unfolding beforeChanges
-  before-same = refl
+  abbrev z′ : Mem
+  z′ = left n m pages cs sync
 
-  abbrev Whole : SyncSaid → Writer → Mem → Type 0
-  Whole s w′ x = (s ≡ syncSays n m pages cs sync) × ((w′ ≡ syncWriter n m pages cs sync w) × (x ≡ syncMem n m pages cs sync))
+  -- what is said where the sync goes so, over this memory
+  abbrev Whole : Going → Mem → Type 0
+  Whole g z =
+      (endSaid g (z .log) ≡ syncSays n m pages cs sync) ×
+      ((endWriter g (z .log) ≡ syncWriter n m pages cs sync (s .writer)) × (memOf (z .tags) (z .marks) (z .cells) (endLog g (z .log)) ≡ syncMem n m pages cs sync))
 
-  module _ (a : Answer (Unit {0})) (is : before ≡ a) where
-    at : beforeChanges n m pages (length cs) ≡ a
-    at = sym before-same ∙ is
+  -- by the answer to the tests
+  by-tests : (a : Answer (Unit {0})) → beforeChanges n lent pages (length cs) ≡ a
+      → (saidIf a (endSaid g′ (z′ .log)) ≡ syncSays n m pages cs sync) × ((keptIf a (s .writer) (endWriter g′ (z′ .log)) ≡ syncWriter n m pages cs sync (s .writer)) ×
+      (keptIf a m (memOf (z′ .tags) (z′ .marks) (z′ .cells) (endLog g′ (z′ .log))) ≡ syncMem n m pages cs sync))
+  unfolding beforeChanges syncSays syncWriter syncMem
+  by-tests a is = (
+    sym (ap (λ (b : Answer (Unit {0})). saidIf b (endSaid g′ (z′ .log))) is),
+    (
+      sym (ap (λ (b : Answer (Unit {0})). keptIf b (s .writer) (endWriter g′ (z′ .log))) is),
+      sym (ap (λ (b : Answer (Unit {0})). keptIf b m (memOf (z′ .tags) (z′ .marks) (z′ .cells) (endLog g′ (z′ .log)))) is),
+    ),
+  )
 
-    abbrev came : CameTo
-    came = allOf (startMem m sync) pages cs 0 (startState n m)
+  by-start : (a : Answer (Unit {0})) → beforeChanges n lent pages (length cs) ≡ a → (x : Mem) → x ≡ with-cells c (keptIf a lent (startMem lent sync))
+      → (g : Going) (z : Mem) → goesOn x pages cs 0 (startGoing a (startState n lent) (s .writer)) ≡ (g, z) → Whole g z
+  by-start (refused j) is x e g z walked =
+      let same : _≡_ {A = Going × Mem} (unbegun j (s .writer), m) (g, z) =
+      sym (goes-unbegun m pages cs 0 j (s .writer)) ∙ ap (λ (y : Mem). goesOn y pages cs 0 (unbegun j (s .writer))) (sym e) ∙ walked in
+      subst (λ (p : Going × Mem). Whole (p .0) (p .1)) same (by-tests (refused j) is)
+  by-start (given u) is x e g z walked =
+      let same : _≡_ {A = Going × Mem} (g′, z′) (g, z) =
+      sym (goes-on pages cs (startMem m sync) 0 (startState n m)) ∙ ap (λ (y : Mem). goesOn y pages cs 0 (on (startState n m))) (sym e) ∙ walked in
+      subst (λ (p : Going × Mem). Whole (p .0) (p .1)) same (by-tests (given u) is)
 
-    abbrev left : Mem
-    left = memAll (startMem m sync) pages cs 0 (startState n m)
-
-    by-answer : Whole (saidIf a (saidBy (came .came) (came .state) left)) (keptIf a w (writerAfter (came .came) (came .state) left))
-        (keptIf a m (memOf (left .tags) (left .marks) (left .cells) (logAfter (came .came) (came .state) left)))
-    unfolding syncSays syncWriter syncMem
-    by-answer = (
-      sym (ap (λ (b : Answer (Unit {0})). saidIf b (saidBy (came .came) (came .state) left)) at),
-      (
-        sym (ap (λ (b : Answer (Unit {0})). keptIf b w (writerAfter (came .came) (came .state) left)) at),
-        sym (ap (λ (b : Answer (Unit {0})). keptIf b m (memOf (left .tags) (left .marks) (left .cells) (logAfter (came .came) (came .state) left))) at),
-      ),
-    )
-
-  -- a sync that cannot begin
-  pub refused-whole : (j : ℕ) (k′ l′ : List ℕ) → refused j ≡ startIf before (startState n lent) → memOf t k′ [] l′ ≡ keptIf before lent (startMem lent sync)
-      → Whole (saidRefused j) w (memOf t k′ c l′)
-  refused-whole j k′ l′ e kept =
-      let is : before ≡ refused j = was-refused before (startState n lent) j e in
-      let same : memOf t k′ c l′ ≡ m = ap (with-cells c) (kept ∙ ap (λ (b : Answer (Unit {0})). keptIf b lent (startMem lent sync)) is) in
-      let all : Whole (saidRefused j) w m = by-answer (refused j) is in
-      (all .0, (all .1 .0, same ∙ all .1 .1))
-
-  -- a sync that has begun, with what its changes came to (r) and left (x)
-  pub begun-whole : (st : SyncState) (k′ l′ : List ℕ) → given st ≡ startIf before (startState n lent) → memOf t k′ [] l′ ≡ keptIf before lent (startMem lent sync)
-      → (r : CameTo) (x : Mem) → r ≡ allOf (memOf t k′ c l′) pages cs 0 st → x ≡ memAll (memOf t k′ c l′) pages cs 0 st
-      → Whole (saidBy (r .came) (r .state) (log-only (x .log))) (writerAfter (r .came) (r .state) (log-only (x .log)))
-      (memOf (x .tags) (x .marks) (x .cells) (logAfter (r .came) (r .state) (log-only (x .log))))
-  begun-whole st k′ l′ e kept r x e₁ e₂ =
-      let p : (before ≡ given tt) × (st ≡ startState n lent) = was-given before (startState n lent) st e in
-      let same : memOf t k′ c l′ ≡ startMem m sync = ap (with-cells c) (kept ∙ ap (λ (b : Answer (Unit {0})). keptIf b lent (startMem lent sync)) (p .0)) in
-      let is-r : r ≡ came (given tt) (p .0) = e₁ ∙ ap (λ (y : Mem). allOf y pages cs 0 st) same ∙ ap (λ (s : SyncState). allOf (startMem m sync) pages cs 0 s) (p .1) in
-      let is-x : x ≡ left (given tt) (p .0) = e₂ ∙ ap (λ (y : Mem). memAll y pages cs 0 st) same ∙ ap (λ (s : SyncState). memAll (startMem m sync) pages cs 0 s) (p .1) in
-      let all : Whole (saidBy (came (given tt) (p .0) .came) (came (given tt) (p .0) .state) (left (given tt) (p .0))) (writerAfter (came (given tt) (p .0) .came) (came (given tt)
-      (p .0) .state) (left (given tt) (p .0)))
-      (memOf (left (given tt) (p .0) .tags) (left (given tt) (p .0) .marks) (left (given tt) (p .0) .cells) (logAfter (came (given tt) (p .0) .came) (came (given tt) (p .0) .state)
-      (left (given tt) (p .0)))) = by-answer (given tt) (p .0) in (
-        sym (said-log (r .came) (r .state) x) ∙ ap (λ (q : CameTo). saidBy (q .came) (q .state) x) is-r ∙ ap (saidBy (came (given tt) (p .0) .came) (came (given tt)
-            (p .0) .state)) is-x ∙ all .0,
-        (
-          sym (writer-log (r .came) (r .state) x) ∙ ap (λ (q : CameTo). writerAfter (q .came) (q .state) x) is-r ∙ ap (writerAfter (came (given tt) (p .0) .came) (came (given tt)
-              (p .0) .state)) is-x ∙ all .1 .0,
-          ap (memOf (x .tags) (x .marks) (x .cells)) (sym (log-log (r .came) (r .state) x)) ∙ ap (λ (q : CameTo). memOf (x .tags) (x .marks) (x .cells) (logAfter (q .came)
-              (q .state) x)) is-r
-              ∙ ap (λ (y : Mem). memOf (y .tags) (y .marks) (y .cells) (logAfter (came (given tt) (p .0) .came) (came (given tt) (p .0) .state) y)) is-x ∙ all .1 .1,
-        ),
-      )
+  pub whole : (k′ l′ : List ℕ) (r₀ r : Run) (z0 z1 z2 z3 : List ℕ) → BeginPromise s lent pages (length cs) r₀ (memOf t k′ [] l′)
+      → goesOn (memOf t k′ c l′) pages cs 0 (runSaid r₀) ≡ (runSaid r, memOf z0 z1 z2 z3) → AllWide cs
+      → (a : SyncAnswer) (after : List ℕ) → EndPromise r z3 a after → SyncPromise s m pages cs a (memOf z0 z1 z2 after)
+  whole k′ l′ r₀ r z0 z1 z2 z3 begun walked wide a after ended =
+      let w = by-start (beforeChanges n lent pages (length cs)) refl (memOf t k′ c l′) (ap (with-cells c) (begun .1 .0)) (runSaid r) (memOf z0 z1 z2 z3)
+      (ap (goesOn (memOf t k′ c l′) pages cs 0) (sym (begun .0)) ∙ walked) in
+      record {
+        says = ended .0 ∙ w .0;
+        writer = ended .1 .0 ∙ w .1 .0;
+        memory = ap (memOf z0 z1 z2) (ended .1 .1) ∙ w .1 .1;
+        widths = said-widths (syncedSaid (a .synced)) cs sync wide (begun .1 .1);
+      }

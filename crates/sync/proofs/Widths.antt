@@ -1,5 +1,4 @@
--- The widths of a change's parts, out of what its type says of it; and of a whole list, change by change. Assumes nothing.
-use mathlib.Core.Path.{_≡_, refl, sym, ap, _∙_, subst}
+-- The widths of a change's parts and of a sync's number, out of what their types say of them; and of a whole list, change by change. Assumes nothing.
 use mathlib.Core.List.{List, [], _∷_, map}
 use Prim.Native.Nat.{ℕ, zero, suc, _+_, _<_, _^_}
 use native.Mathlib.Omega.{arith}
@@ -10,14 +9,11 @@ use denote.Builtin.{u64}
 use denote.Laws.{Is}
 use denote.Shadow.{shadow}
 use borrow.Author.Needs.{needs}
-use Rattle.answers.specs.Answers.{Answer, given, refused}
-use Rattle.wal.specs.Writer.{finishAnswer}
-use Rattle.sync.specs.Change.{Mem, Wide, AllWide, none-wide, more-wide}
-use Rattle.sync.specs.Sync.{Came, through, refusedAt, SyncSaid, saidDone, saidRefused, saidRefusedAt, saidFinish, saidBy, widthsBy}
-use Rattle.sync.specs.InnerSync.{wideIf}
+use Rattle.sync.specs.Change.{Wide, AllWide, none-wide, more-wide}
 use Rattle.sync.specs.declared.Change.{Change}
-use Rattle.sync.specs.declared.SyncState.{SyncState}
+use Rattle.sync.specs.declared.SyncStart.{SyncStart}
 use Rattle.sync.proofs.Change as T
+use Rattle.sync.proofs.SyncStart as S
 
 -- each element of an array of u64 fits
 elements-fit : (xs : List ℕ) (us : List Val) → shadow (each ℕ (u64 .own) (map (λ v. v) xs) us) → (i : ℕ) → getD xs i 0 < 2 ^ 64
@@ -36,16 +32,11 @@ typed-wide c vs is =
       high-word = elements-fit (c .diff .words) (words .0) (words .1 .1) 1;
     }
 
+-- the width of a sync's number
+pub typed-number : (s : SyncStart) (vs : List Val) → Is S.the-row s vs → s .«sync_seqn» < 2 ^ 32
+typed-number s vs is = search needs
+
 -- all of a list are, where each is
 pub all-wide : (d : Change) (cs : List Change) → ((i : ℕ) → i < length cs → Wide (getD cs i d)) → AllWide cs
 all-wide d [] f = none-wide
 all-wide d (c ∷ cs) f = more-wide (f 0 (omega arith)) (all-wide d cs (λ i l. f (suc i) (omega arith)))
-
--- what a sync says of the widths, by where its changes came to
-pub said-widths : (s : SyncSaid) (c : Came) (st : SyncState) (m : Mem) (cs : List Change) (sync : ℕ) → s ≡ saidBy c st m → wideIf c cs → sync < 2 ^ 32 → widthsBy s cs sync
-said-widths s (refusedAt j k) st m cs sync e w l = subst (λ (x : SyncSaid). widthsBy x cs sync) (sym e) tt
-said-widths s (through j) st m cs sync e w l = subst (λ (x : SyncSaid). widthsBy x cs sync) (sym e) (go (finishAnswer (m .log) (st .writer)))
-  where
-    go : (a : Answer ℕ) → widthsBy (saidFinish a (st .occupied)) cs sync
-    go (given len) = (w, l)
-    go (refused k) = tt

@@ -8,7 +8,7 @@ use lib.ListN.{length, getD, set}
 use Rattle.answers.specs.Answers.{Answer, given, refused}
 use Rattle.answers.specs.Refusals.{numberOf}
 use Rattle.blocks.specs.Blocks.{put}
-use Rattle.ht_file.specs.Places.{tagPages, tagsFit}
+use Rattle.ht_file.specs.Places.{tagPages, ifTags}
 use Rattle.meta_map.specs.Tags.{Kind, empty, tombstone, full, kindOf, isKind, fullTag}
 use Rattle.page_diff.specs.Diff.{marked, countOf}
 use Rattle.probe.specs.Path.{allocating, hitLimit}
@@ -129,11 +129,10 @@ afterDoes st m c (given allocates) =
 unfoldable pub effectOf : SyncState → Mem → List ℕ → Change → Answer Effect
 unfolding doesOf
 effectOf st m page c =
-    cond (tagsFit (st .n) (length (m .tags)))
+    ifTags (m .tags) (st .n)
     (cond (eqb (length page) 4096 && eqb (length (m .marks)) (tagPages (st .n)))
     (ifOpen (st .writer) (afterDoes st m c (doesOf (st .n) (m .tags) (m .cells) c)))
     (refused 2))
-    (refused 1)
 
 -- "a clear is logged"; "An update is logged, with the record's id and the elided bytes that stand in its page"
 abbrev pub updateBy : Change → List ℕ → ℕ → Entry

@@ -1,4 +1,3 @@
 pub mod Change
 pub mod InnerChange
-pub mod InnerSync
 pub mod Sync

@@ -7,7 +7,7 @@ use lib.Dec.{ltb, eqb}
 use lib.ListN.{length, take, drop, replicate}
 use Rattle.answers.specs.Answers.{Answer, given, refused}
 use Rattle.answers.specs.Refusals.{numberOf}
-use Rattle.ht_file.specs.Places.{tagPages, tagsFit}
+use Rattle.ht_file.specs.Places.{tagPages, ifTags}
 use Rattle.meta_map.specs.Tags.{full, countOf}
 use Rattle.page_diff.specs.Diff.{marked}
 use Rattle.wal.specs.Log.{Entry, startSize}
@@ -17,11 +17,9 @@ use Rattle.wal.specs.declared.Writer.the-variants.{Fresh}
 use Rattle.sync.specs.Change.{AllWide, Mem, memOf, Effect, effectOf, entryBy, memBy, stateBy}
 use Rattle.sync.specs.declared.Change.{Change}
 use Rattle.sync.specs.declared.SyncState.{SyncState}
-use Rattle.sync.specs.declared.Walked.{Walked}
-use Rattle.sync.specs.declared.Walk.{Walk}
-use Rattle.sync.specs.declared.Walk.the-variants as walk
-use Rattle.sync.specs.declared.Begun.{Begun}
-use Rattle.sync.specs.declared.Begun.the-variants as begun
+use Rattle.sync.specs.declared.SyncStart.{SyncStart}
+use Rattle.sync.specs.declared.Run.{Run}
+use Rattle.sync.specs.declared.Run.the-variants as run
 use Rattle.sync.specs.declared.SyncAnswer.{SyncAnswer}
 use Rattle.sync.specs.declared.Synced.{Synced}
 use Rattle.sync.specs.declared.Synced.the-variants as synced
@@ -88,20 +86,27 @@ unfoldable pub hashesOf : List Change → List ℕ
 hashesOf [] = []
 hashesOf (c ∷ cs) = cond (marked (c .diff .words) 127) (hashesOf cs) (c .hash ∷ hashesOf cs)
 
-abbrev pub walkSaid : Walk → Came
-walkSaid (walk.Through j) = through j
-walkSaid (walk.RefusedAt j r) = refusedAt j (numberOf r)
+-- how a sync goes: on, with the state for its next change; refused before its first, with the writer that it hands back; or refused at change j
+pub data Going : Type 0 where
+  on : SyncState → Going
+  unbegun : ℕ → Writer → Going
+  stopped : ℕ → ℕ → Going
 
-abbrev pub walkedSaid : Walked → CameTo
-walkedSaid w = record { came = walkSaid (w .walk); state = w .state }
+abbrev pub runSaid : Run → Going
+runSaid (run.On st) = on st
+runSaid (run.Refused r w) = unbegun (numberOf r) w
+runSaid (run.RefusedAt j r) = stopped j (numberOf r)
+
+-- how it goes where its changes came to
+abbrev pub goingBy : Came → SyncState → Going
+goingBy (through j) st = on st
+goingBy (refusedAt j k) st = stopped j k
 
 -- ---- the whole sync
 -- "Sync: 1, 2 unless there are 4,096 page bytes per record and M marks (any number of cells will do), 13 for begin"
 unfoldable pub beforeChanges : ℕ → Mem → List ℕ → ℕ → Answer (Unit {0})
 beforeChanges n m pages count =
-    cond (tagsFit n (length (m .tags)))
-    (cond (eqb (length pages) (4096 * count) && eqb (length (m .marks)) (tagPages n)) (beginAnswer (m .log)) (refused 2))
-    (refused 1)
+    ifTags (m .tags) n (cond (eqb (length pages) (4096 * count) && eqb (length (m .marks)) (tagPages n)) (beginAnswer (m .log)) (refused 2))
 
 -- "marks .. zeroed at the start"; "Occupied starts as the number of full tags"; the log is begun
 abbrev pub startMem : Mem → ℕ → Mem
@@ -120,18 +125,31 @@ abbrev pub saidFinish : Answer ℕ → ℕ → SyncSaid
 saidFinish (given len) occupied = saidDone occupied len
 saidFinish (refused k) occupied = saidRefused k
 
-abbrev pub saidBy : Came → SyncState → Mem → SyncSaid
-saidBy (through j) st m = saidFinish (finishAnswer (m .log) (st .writer)) (st .occupied)
-saidBy (refusedAt j k) st m = saidRefusedAt j k
+abbrev pub endSaid : Going → List ℕ → SyncSaid
+endSaid (on st) log = saidFinish (finishAnswer log (st .writer)) (st .occupied)
+endSaid (unbegun k w) log = saidRefused k
+endSaid (stopped j k) log = saidRefusedAt j k
 
--- "finishes the log", or its "writer becomes fresh"
+-- "finishes the log", or its "writer becomes fresh"; a sync that has not begun leaves both
+abbrev pub endLog : Going → List ℕ → List ℕ
+endLog (on st) log = finishLog log (st .writer)
+endLog (unbegun k w) log = log
+endLog (stopped j k) log = log
+
+abbrev pub endWriter : Going → List ℕ → Writer
+endWriter (on st) log = finishWriter log (st .writer)
+endWriter (unbegun k w) log = w
+endWriter (stopped j k) log = Fresh
+
+-- the same, where the changes came to
+abbrev pub saidBy : Came → SyncState → Mem → SyncSaid
+saidBy c st m = endSaid (goingBy c st) (m .log)
+
 abbrev pub logAfter : Came → SyncState → Mem → List ℕ
-logAfter (through j) st m = finishLog (m .log) (st .writer)
-logAfter (refusedAt j k) st m = m .log
+logAfter c st m = endLog (goingBy c st) (m .log)
 
 abbrev pub writerAfter : Came → SyncState → Mem → Writer
-writerAfter (through j) st m = finishWriter (m .log) (st .writer)
-writerAfter (refusedAt j k) st m = Fresh
+writerAfter c st m = endWriter (goingBy c st) (m .log)
 
 abbrev pub syncedSaid : Synced → SyncSaid
 syncedSaid (synced.Done o l) = saidDone o l
@@ -169,30 +187,35 @@ syncWriter n m pages cs sync w =
     keptIf (beforeChanges n m pages (length cs)) w
     (writerAfter (came n m pages cs sync .came) (came n m pages cs sync .state) (left n m pages cs sync))
 
--- what change j promises: where it came to, and what it left
-abbrev pub ChangePromise : Mem → List ℕ → Change → ℕ → SyncState → Walked → Mem → Type 0
-ChangePromise m pages c j st r after = (walkedSaid r ≡ changeAt m pages c j st) × (after ≡ changeMem m pages c j st)
+-- ---- what each part of a sync promises
+-- change j of a sync that goes on; one that was refused stays as it is, and leaves all
+abbrev pub changeGoing : Mem → List ℕ → Change → ℕ → Going → Going
+changeGoing m pages c j (on st) = goingBy (changeAt m pages c j st .came) (changeAt m pages c j st .state)
+changeGoing m pages c j (unbegun k w) = unbegun k w
+changeGoing m pages c j (stopped i k) = stopped i k
 
--- the state that a sync begins with, or a refusal
-abbrev pub startIf : Answer (Unit {0}) → SyncState → Answer SyncState
-startIf (given u) st = given st
-startIf (refused k) st = refused k
+abbrev pub changeLeft : Mem → List ℕ → Change → ℕ → Going → Mem
+changeLeft m pages c j (on st) = changeMem m pages c j st
+changeLeft m pages c j (unbegun k w) = m
+changeLeft m pages c j (stopped i k) = m
 
-abbrev pub begunSaid : Begun → Answer SyncState
-begunSaid (begun.Ready st) = given st
-begunSaid (begun.Refused r) = refused (numberOf r)
+abbrev pub ChangePromise : Mem → List ℕ → Change → ℕ → Run → Run → Mem → Type 0
+ChangePromise m pages c j before r after = (runSaid r ≡ changeGoing m pages c j (runSaid before)) × (after ≡ changeLeft m pages c j (runSaid before))
 
--- what the start of a sync of so many changes promises: the state for its first change, and the marks and the log after it
-abbrev pub BeginPromise : ℕ → Mem → List ℕ → ℕ → ℕ → Begun → Mem → Type 0
-BeginPromise n m pages count sync r after =
-    (begunSaid r ≡ startIf (beforeChanges n m pages count) (startState n m)) × (after ≡ keptIf (beforeChanges n m pages count) m (startMem m sync))
+-- the start of a sync of so many changes: how it goes, the marks and the log after it; and the width of its number
+abbrev pub startGoing : Answer (Unit {0}) → SyncState → Writer → Going
+startGoing (given u) st w = on st
+startGoing (refused k) st w = unbegun k w
 
--- what the end promises, from where the changes came to: the answer, the writer and the log after it
-abbrev pub EndPromise : Walked → List ℕ → SyncAnswer → List ℕ → Type 0
-EndPromise w log r after =
-    (syncedSaid (r .synced) ≡ saidBy (walkSaid (w .walk)) (w .state) (memOf [] [] [] log)) ×
-    ((r .writer ≡ writerAfter (walkSaid (w .walk)) (w .state) (memOf [] [] [] log)) ×
-    (after ≡ logAfter (walkSaid (w .walk)) (w .state) (memOf [] [] [] log)))
+abbrev pub BeginPromise : SyncStart → Mem → List ℕ → ℕ → Run → Mem → Type 0
+BeginPromise s m pages count r after =
+    (runSaid r ≡ startGoing (beforeChanges (s .n) m pages count) (startState (s .n) m) (s .writer)) ×
+    ((after ≡ keptIf (beforeChanges (s .n) m pages count) m (startMem m (s .«sync_seqn»))) × (s .«sync_seqn» < 2 ^ 32))
+
+-- the end of a sync, however it goes: the answer, the writer and the log after it
+abbrev pub EndPromise : Run → List ℕ → SyncAnswer → List ℕ → Type 0
+EndPromise g log r after =
+    (syncedSaid (r .synced) ≡ endSaid (runSaid g) log) × ((r .writer ≡ endWriter (runSaid g) log) × (after ≡ endLog (runSaid g) log))
 
 -- the widths that the types of what is lent give, where a sync came through: of every change, and of the sync number
 abbrev pub widthsBy : SyncSaid → List Change → ℕ → Type 0
@@ -201,8 +224,8 @@ widthsBy (saidRefused k) cs sync = Unit {0}
 widthsBy (saidRefusedAt j k) cs sync = Unit {0}
 
 -- what a sync promises: its answer, the writer and the memory after it; and these widths
-pub record SyncPromise (n : ℕ) (m : Mem) (pages : List ℕ) (cs : List Change) (sync : ℕ) (w : Writer) (r : SyncAnswer) (after : Mem) : Type 0 where
-  pub says : syncedSaid (r .synced) ≡ syncSays n m pages cs sync
-  pub writer : r .writer ≡ syncWriter n m pages cs sync w
-  pub memory : after ≡ syncMem n m pages cs sync
-  pub widths : widthsBy (syncedSaid (r .synced)) cs sync
+pub record SyncPromise (s : SyncStart) (m : Mem) (pages : List ℕ) (cs : List Change) (r : SyncAnswer) (after : Mem) : Type 0 where
+  pub says : syncedSaid (r .synced) ≡ syncSays (s .n) m pages cs (s .«sync_seqn»)
+  pub writer : r .writer ≡ syncWriter (s .n) m pages cs (s .«sync_seqn») (s .writer)
+  pub memory : after ≡ syncMem (s .n) m pages cs (s .«sync_seqn»)
+  pub widths : widthsBy (syncedSaid (r .synced)) cs (s .«sync_seqn»)

@@ -13,7 +13,6 @@ ghost use Rattle.meta_map.specs.Tags.{full, countOf};
 ghost use Rattle.sync.specs.Change.{memOf, bucket, whereOf, placeOf, namedBy, tagFits, byNamed, doesOf, cellsAt, takenSaid, StepPromise, stateOf};
 ghost use Rattle.sync.specs.declared.Where.the-variants.{Known, Fresh as FreshPage, Cell};
 ghost use Rattle.sync.specs.InnerChange.{nameSaid, plannedSaid, LookPromise};
-ghost use Rattle.sync.specs.InnerSync.{WalkPromise};
 ghost use Rattle.sync.specs.Sync.{ChangePromise, BeginPromise, EndPromise, SyncPromise};
 use answers::Number;
 use answers::Outcome;
@@ -77,15 +76,20 @@ pub struct StepAnswer {
     pub state: SyncState,
 }
 
-// What the list of changes has come to: all of them, or a refusal at one of them.
-pub enum Walk {
-    Through(usize),
-    RefusedAt(usize, Refusal),
+// What a sync begins with: the count of buckets, its number, and the writer that it hands back where it
+// is refused before it has begun.
+pub struct SyncStart {
+    pub n: usize,
+    pub sync_seqn: u32,
+    pub writer: Writer,
 }
 
-pub struct Walked {
-    pub walk: Walk,
-    pub state: SyncState,
+// How a sync goes: on, with the state for its next change; refused before its first change, with the
+// writer that it hands back; or refused at a change.
+pub enum Run {
+    On(SyncState),
+    Refused(Refusal, Writer),
+    RefusedAt(usize, Refusal),
 }
 
 // What the whole sync has come to: the full buckets and the length of the finished log.
@@ -395,7 +399,7 @@ pub fn step(
     }
 }
 
-// Change j of a sync, whose page is the j-th of the lent pages.
+// Change j of a sync, whose page is the j-th of the lent pages. A sync that was refused stays as it is.
 pub fn change_at(
     tags: &mut [u8],
     marks: &mut [u8],
@@ -404,10 +408,13 @@ pub fn change_at(
     pages: &[u8],
     c: Change,
     j: usize,
-    st: SyncState,
-) -> Walked
-    ensures { λ r. ⌜ ChangePromise (memOf (now (tags .entry)) (now (marks .entry)) (now (cells .entry)) (now (log .entry))) (now (pages .entry)) c j st r (memOf (now (tags .exit)) (now (marks .exit)) (now (cells .exit)) (now (log .exit))) ⌝ }
+    run: Run,
+) -> Run
+    ensures { λ r. ⌜ ChangePromise (memOf (now (tags .entry)) (now (marks .entry)) (now (cells .entry)) (now (log .entry))) (now (pages .entry)) c j run r (memOf (now (tags .exit)) (now (marks .exit)) (now (cells .exit)) (now (log .exit))) ⌝ }
 {
+    let Run::On(st) = run else {
+        return run;
+    };
     let mut a = 0;
     let mut e = 0;
     if j < pages.len() / 4096 {
@@ -416,44 +423,11 @@ pub fn change_at(
     }
     let s = step(tags, marks, cells, log, &pages[a..e], c, st);
     let t = s.taken;
-    let state = s.state;
     if let Taken::Refused(why) = t {
-        return Walked {
-            walk: Walk::RefusedAt(j, why),
-            state,
-        };
+        return Run::RefusedAt(j, why);
     }
-    Walked {
-        walk: Walk::Through(j),
-        state,
-    }
-}
-
-// The changes one after another, up to the end or to the first that is refused.
-fn walk_changes(
-    tags: &mut [u8],
-    marks: &mut [u8],
-    cells: &mut [u64],
-    log: &mut [u8],
-    pages: &[u8],
-    changes: &[Change],
-    start: SyncState,
-) -> Walked
-    ensures { λ r. ⌜ WalkPromise (memOf (now (tags .entry)) (now (marks .entry)) (now (cells .entry)) (now (log .entry))) (now (pages .entry)) (now (changes .entry)) start r (memOf (now (tags .exit)) (now (marks .exit)) (now (cells .exit)) (now (log .exit))) ⌝ }
-{
-    let mut st = start;
-    let mut i = 0;
-    while i < changes.len() {
-        let s = change_at(tags, marks, cells, log, pages, changes[i], i, st);
-        let d = s.walk;
-        let Walk::Through(_) = d else {
-            return s;
-        };
-        st = s.state;
-        i += 1;
-    }
-    let d = Walk::Through(i);
-    Walked { walk: d, state: st }
+    let state = s.state;
+    Run::On(state)
 }
 
 // The full tags among the first n.
@@ -467,12 +441,6 @@ fn full_tags(tags: &[u8], n: usize) -> u64
     0
 }
 
-// What the start of a sync has come to: the state for its first change.
-pub enum Begun {
-    Ready(SyncState),
-    Refused(Refusal),
-}
-
 // The start of a sync of so many changes: the lengths are tested, the log is begun, the marks are zeroed and
 // the full tags counted. A refusal leaves all.
 pub fn begin_sync(
@@ -481,71 +449,76 @@ pub fn begin_sync(
     log: &mut [u8],
     pages: &[u8],
     count: usize,
-    n: usize,
-    sync_seqn: u32,
-) -> Begun
-    ensures { λ r. ⌜ BeginPromise n (memOf (now (tags .entry)) (now (marks .entry)) [] (now (log .entry))) (now (pages .entry)) count «sync_seqn» r (memOf (now (tags .entry)) (now (marks .exit)) [] (now (log .exit))) ⌝ }
+    start: SyncStart,
+) -> Run
+    ensures { λ r. ⌜ BeginPromise start (memOf (now (tags .entry)) (now (marks .entry)) [] (now (log .entry))) (now (pages .entry)) count r (memOf (now (tags .entry)) (now (marks .exit)) [] (now (log .exit))) ⌝ }
 {
-    if ht_file::tags_fit(n, tags.len()) {
-        if pages.len() / 4096 != count {
-            return Begun::Refused(Refusal::LengthUnfit);
-        }
-        if pages.len() % 4096 != 0 {
-            return Begun::Refused(Refusal::LengthUnfit);
-        }
-        if marks.len() != (n + 4095) / 4096 {
-            return Begun::Refused(Refusal::LengthUnfit);
-        }
-        let begun = wal_write::begin(log, Writer::Fresh, sync_seqn);
-        let outcome = begun.outcome;
-        if let Outcome::Refused(why) = outcome {
-            return Begun::Refused(why);
-        }
-        blocks::zero_all(marks);
-        let writer = begun.writer;
-        let start = SyncState {
-            n,
-            writer,
-            occupied: full_tags(tags, n),
-        };
-        return Begun::Ready(start);
+    let n = start.n;
+    let w = start.writer;
+    let fit = ht_file::check_tags(n, tags.len());
+    if let Outcome::Refused(why) = fit {
+        return Run::Refused(why, w);
     }
-    Begun::Refused(Refusal::TableUnfit)
+    if pages.len() / 4096 != count {
+        return Run::Refused(Refusal::LengthUnfit, w);
+    }
+    if pages.len() % 4096 != 0 {
+        return Run::Refused(Refusal::LengthUnfit, w);
+    }
+    if marks.len() != ht_file::tag_pages(n) {
+        return Run::Refused(Refusal::LengthUnfit, w);
+    }
+    let begun = wal_write::begin(log, Writer::Fresh, start.sync_seqn);
+    let outcome = begun.outcome;
+    if let Outcome::Refused(why) = outcome {
+        return Run::Refused(why, w);
+    }
+    blocks::zero_all(marks);
+    let writer = begun.writer;
+    let state = SyncState {
+        n,
+        writer,
+        occupied: full_tags(tags, n),
+    };
+    Run::On(state)
 }
 
 // What comes after the last change: the log is finished, or given up where a change was refused.
-pub fn end_sync(log: &mut [u8], walked: Walked) -> SyncAnswer
-    ensures { λ r. ⌜ EndPromise walked (now (log .entry)) r (now (log .exit)) ⌝ }
+pub fn end_sync(log: &mut [u8], run: Run) -> SyncAnswer
+    ensures { λ r. ⌜ EndPromise run (now (log .entry)) r (now (log .exit)) ⌝ }
 {
-    let walk = walked.walk;
-    let state = walked.state;
-    if let Walk::RefusedAt(j, why) = walk {
-        return SyncAnswer {
-            synced: Synced::RefusedAt(j, why),
-            writer: Writer::Fresh,
-        };
-    }
-    let open = state.writer;
-    let finished = wal_write::finish(log, open);
-    let writer = finished.writer;
-    let answer = finished.answer;
-    match answer {
-        Number::Is(length) => SyncAnswer {
-            synced: Synced::Done {
-                occupied: state.occupied,
-                length,
-            },
-            writer,
-        },
-        Number::Refused(why) => SyncAnswer {
+    match run {
+        Run::Refused(why, writer) => SyncAnswer {
             synced: Synced::Refused(why),
             writer,
         },
+        Run::RefusedAt(j, why) => SyncAnswer {
+            synced: Synced::RefusedAt(j, why),
+            writer: Writer::Fresh,
+        },
+        Run::On(state) => {
+            let open = state.writer;
+            let finished = wal_write::finish(log, open);
+            let writer = finished.writer;
+            let answer = finished.answer;
+            match answer {
+                Number::Is(length) => SyncAnswer {
+                    synced: Synced::Done {
+                        occupied: state.occupied,
+                        length,
+                    },
+                    writer,
+                },
+                Number::Refused(why) => SyncAnswer {
+                    synced: Synced::Refused(why),
+                    writer,
+                },
+            }
+        }
     }
 }
 
-// A sync: the changes one after another, logged, between the start of the log and its end. `w` is the
-// writer that a refused sync hands back.
+// A sync: the changes one after another, logged, between the start of the log and its end.
 pub fn sync(
     tags: &mut [u8],
     marks: &mut [u8],
@@ -553,21 +526,15 @@ pub fn sync(
     log: &mut [u8],
     pages: &[u8],
     changes: &[Change],
-    n: usize,
-    w: Writer,
-    sync_seqn: u32,
+    start: SyncStart,
 ) -> SyncAnswer
-    ensures { λ r. ⌜ SyncPromise n (memOf (now (tags .entry)) (now (marks .entry)) (now (cells .entry)) (now (log .entry))) (now (pages .entry)) (now (changes .entry)) «sync_seqn» w r (memOf (now (tags .exit)) (now (marks .exit)) (now (cells .exit)) (now (log .exit))) ⌝ }
+    ensures { λ r. ⌜ SyncPromise start (memOf (now (tags .entry)) (now (marks .entry)) (now (cells .entry)) (now (log .entry))) (now (pages .entry)) (now (changes .entry)) r (memOf (now (tags .exit)) (now (marks .exit)) (now (cells .exit)) (now (log .exit))) ⌝ }
 {
-    let begun = begin_sync(tags, marks, log, pages, changes.len(), n, sync_seqn);
-    match begun {
-        Begun::Refused(why) => SyncAnswer {
-            synced: Synced::Refused(why),
-            writer: w,
-        },
-        Begun::Ready(start) => {
-            let walked = walk_changes(tags, marks, cells, log, pages, changes, start);
-            end_sync(log, walked)
-        }
+    let mut run = begin_sync(tags, marks, log, pages, changes.len(), start);
+    let mut i = 0;
+    while i < changes.len() {
+        run = change_at(tags, marks, cells, log, pages, changes[i], i, run);
+        i += 1;
     }
+    end_sync(log, run)
 }

@@ -4,15 +4,14 @@
 // `stdout` is worked out from document 01 apart from this code.
 use answers::Refusal;
 use page_diff::Diff;
-use sync::Begun;
 use sync::Change;
 use sync::Place;
+use sync::Run;
 use sync::SyncAnswer;
+use sync::SyncStart;
 use sync::SyncState;
 use sync::Synced;
 use sync::Taken;
-use sync::Walk;
-use sync::Walked;
 use wal::Writer;
 
 const N: usize = 4;
@@ -179,8 +178,8 @@ fn fresh() -> Change {
     change(0, PLAIN, sync::fresh())
 }
 
-// The first `count` of two changes, one after the other, up to one that is refused.
-fn walked(
+// The first `count` of two changes, one after the other.
+fn changed(
     tags: &mut [u8],
     marks: &mut [u8],
     cells: &mut [u64],
@@ -189,27 +188,20 @@ fn walked(
     first: Change,
     second: Change,
     count: usize,
-    start: SyncState,
-) -> Walked {
+    begun: Run,
+) -> Run {
     if count == 0 {
-        return Walked {
-            walk: Walk::Through(0),
-            state: start,
-        };
+        return begun;
     }
-    let one = sync::change_at(tags, marks, cells, log, pages, first, 0, start);
+    let one = sync::change_at(tags, marks, cells, log, pages, first, 0, begun);
     if count == 1 {
         return one;
     }
-    let came = one.walk;
-    if let Walk::RefusedAt(_, _) = came {
-        return one;
-    }
-    sync::change_at(tags, marks, cells, log, pages, second, 1, one.state)
+    sync::change_at(tags, marks, cells, log, pages, second, 1, one)
 }
 
-// A sync of them: its start, the changes, its end. A refused start hands the writer back.
-fn run(
+// A sync of them: its start, the changes, its end.
+fn synced_by(
     tags: &mut [u8],
     marks: &mut [u8],
     cells: &mut [u64],
@@ -218,20 +210,11 @@ fn run(
     first: Change,
     second: Change,
     count: usize,
-    n: usize,
-    w: Writer,
+    start: SyncStart,
 ) -> SyncAnswer {
-    let begun = sync::begin_sync(&tags[..], marks, log, pages, count, n, SEQN);
-    match begun {
-        Begun::Refused(why) => SyncAnswer {
-            synced: Synced::Refused(why),
-            writer: w,
-        },
-        Begun::Ready(start) => {
-            let came = walked(tags, marks, cells, log, pages, first, second, count, start);
-            sync::end_sync(log, came)
-        }
-    }
+    let begun = sync::begin_sync(&tags[..], marks, log, pages, count, start);
+    let came = changed(tags, marks, cells, log, pages, first, second, count, begun);
+    sync::end_sync(log, came)
 }
 
 // Such a sync, and what it left.
@@ -248,8 +231,12 @@ fn synced(
     n: usize,
 ) {
     let mut cells = [cell, 7];
-    let open = Writer::Open(77);
-    let r = run(
+    let start = SyncStart {
+        n,
+        sync_seqn: SEQN,
+        writer: Writer::Open(77),
+    };
+    let r = synced_by(
         tags,
         marks,
         &mut cells,
@@ -258,8 +245,7 @@ fn synced(
         first,
         second,
         count,
-        n,
-        open,
+        start,
     );
     let answer = r.synced;
     let writer = r.writer;

@@ -1,30 +1,33 @@
 -- The tests in order, then begin's answer, the zeroed marks and the count. Assumes nothing.
-use mathlib.Core.Path.{_≡_, refl, sym, ap, ap₂, _∙_}
-use mathlib.Core.Bool.{true, false}
+use mathlib.Core.Path.{_≡_, sym, ap, ap₂, _∙_}
+use mathlib.Core.Bool.{true}
 use mathlib.Core.List.{List, []}
-use Prim.Native.Nat.{ℕ, _+_, _*_, _/_}
+use Prim.Native.Nat.{ℕ, _+_, _*_, _/_, _<_, _^_}
 use native.Mathlib.Omega.{arith}
 use lib.ListN.{length}
 use Rattle.answers.specs.Answers.{outcomeSaid}
 use Rattle.answers.specs.Refusals.{numberOf}
 use Rattle.ht_file.specs.Places.{tagsFit, tagPages}
-use Rattle.ht_file.proofs.Laws.{tags-fit-facts}
-use Rattle.wal.specs.declared.Writer.{Writer}
+use Rattle.ht_file.proofs.Laws.{table-fits, table-unfit}
 use Rattle.sync.specs.Change.{memOf, stateOf}
-use Rattle.sync.proofs.StartLaws.{start-unfit, start-pages, start-marks, start-begin, begin-refused, begin-given, outcome-given, begun-left, begun-open}
+use Rattle.sync.specs.declared.SyncStart.{SyncStart}
+use Rattle.sync.proofs.StartLaws.{start-unfit, start-pages, start-marks, start-begin, begin-refused, begin-given, begun-left, begun-open}
+use Rattle.sync.proofs.Widths.{typed-number}
 use borrow.Author.Needs.{needs}
 use Rattle.sync.proofs.begin_sync.Statement.{statement}
 use Rattle.sync.proofs.begin_sync.Tie as tie
 use Rattle.sync.proofs.begin_sync.Reads as reads
 use Rattle.sync.proofs.begin_sync.Lts as lts
-use Rattle.ht_file.proofs.tags_fit.Reads as tags-fit-reads
+use Rattle.blocks.proofs.zero_all.Reads as zero-all-reads
+use Rattle.ht_file.proofs.check_tags.Reads as check-tags-reads
+use Rattle.ht_file.proofs.tag_pages.Reads as tag-pages-reads
 use Rattle.sync.proofs.full_tags.Reads as full-tags-reads
 use Rattle.wal_write.proofs.begin.Reads as begin-reads
 
 -- what is lent
 module _ (c : tie.Start) where
-  abbrev n : ℕ
-  n = c .args .n
+  abbrev s : SyncStart
+  s = c .args .start
 
   abbrev tags : List ℕ
   tags = c .args .tags .now
@@ -41,105 +44,118 @@ module _ (c : tie.Start) where
   abbrev count : ℕ
   count = c .args .count
 
-  abbrev sync : ℕ
-  sync = c .args .sync-seqn
+  wide : s .«sync_seqn» < 2 ^ 32
+  wide = typed-number s _ (c .good .1 .1 .1 .1 .1 .0)
 
 -- the tags fit
-module _ (c : tie.Then1) where
+module _ (c : tie.After-enum-told) where
   abbrev start : tie.Start
-  start = c .before .before .before .before .before .before
+  start = c .before .before .before .before .before .before .before
 
-  fits : tagsFit (n start) (length (tags start)) ≡ true
-  fits = sym (c .before .tags-fit .ensures) ∙ c .if1 .taken
+  fits : tagsFit (s start .n) (length (tags start)) ≡ true
+  fits = table-fits (tagsFit (s start .n) (length (tags start))) (sym (c .before .before .check-tags .ensures) ∙ ap outcomeSaid (c .enum-told .given .1))
 
--- a page for each change
-module _ (c : tie.Else3) where
+-- a page for each change, and the marks
+module _ (c : tie.Else2) where
   abbrev first : tie.Start
   first = start (c .before .before)
 
   whole : length (pages first) ≡ 4096 * count first
-  whole = omega (arith, c .before .if2 .left, c .if3 .left)
+  whole = omega (arith, c .before .if1 .left, c .if2 .left)
 
--- src/lib.rt:416:8
-tags-fit-requires : tie.Need-tags-fit-requires
-tags-fit-requires c κs = search needs
+module _ (c : tie.Else3) where
+  abbrev marked : length (marks (first (c .before .before))) ≡ tagPages (s (first (c .before .before)) .n)
+  marked = c .if3 .left ∙ c .before .tag-pages .ensures
 
--- src/lib.rt:418:13
+-- src/lib.rt:458:9
+check-tags-requires : tie.Need-check-tags-requires
+check-tags-requires c κs = search needs
+
+-- src/lib.rt:459:29
+enum-known-fit : tie.Need-enum-known-fit
+enum-known-fit c = search needs
+
+-- src/lib.rt:460:9
 returns : tie.Need-returns
-returns c = let t = c .before in let o = start t in begin-refused (n o) (tags o) (marks o) (log o) (pages o) (count o) (sync o) 2 (start-pages (n o) (tags o) (marks o) (log o) (pages o) (count o) (fits t) (λ e. c .if2 .taken (omega (arith, e))))
-
--- src/lib.rt:421:13
-returns-2 : tie.Need-returns-2
-returns-2 c = let t = c .before .before in let o = start t in begin-refused (n o) (tags o) (marks o) (log o) (pages o) (count o) (sync o) 2 (start-pages (n o) (tags o) (marks o) (log o) (pages o) (count o) (fits t) (λ e. c .if3 .taken (omega (arith, e))))
-
--- src/lib.rt:423:28
-add-if4 : tie.Need-add-if4
-add-if4 c = let t = c .before .before in let o = start t in omega (arith, tags-fit-facts (n o) (length (tags o)) (fits t))
-
--- src/lib.rt:424:13
-returns-3 : tie.Need-returns-3
-returns-3 c = let e = c .before in let t = e .before .before in let o = start t in begin-refused (n o) (tags o) (marks o) (log o) (pages o) (count o) (sync o) 2 (start-marks (n o) (tags o) (marks o) (log o) (pages o) (count o) (fits t) (whole e) (c .if4 .taken))
-
--- src/lib.rt:426:13
-begin-requires : tie.Need-begin-requires
-begin-requires c κs = search needs
-
--- src/lib.rt:428:33
-enum-known-outcome : tie.Need-enum-known-outcome
-enum-known-outcome c = search needs
-
--- src/lib.rt:429:13
-same-length : tie.Need-same-length
-same-length c = search needs
-
--- src/lib.rt:429:13
-returns-4 : tie.Need-returns-4
-returns-4 c = let u = c .before .before .before .before .before .before .before in let e = u .before in let t = e .before .before in let o = start t in let b = c .before .before .before .before .before .begin in let why = c .before .outcome .given .0 .0 in let h = sym (b .ensures .0) ∙ ap outcomeSaid (c .before .outcome .given .1) in let g = begin-refused (n o) (tags o) (marks o) (log o) (pages o) (count o) (sync o) (numberOf why) (start-begin (n o) (tags o) (marks o) (log o) (pages o) (count o) (fits t) (whole e) (u .if4 .left) ∙ h) in (g .0, ap (memOf (tags o) (marks o) []) (b .ensures .1 .1 ∙ begun-left (log o) (sync o) (numberOf why) h) ∙ g .1)
+returns c = let o = c .before .before .before .before .before .before .before .before in let why = c .before .fit .given .0 .0 in begin-refused (s o .n) (tags o) (marks o) (log o) (pages o) (count o) (s o .«sync_seqn») (s o .writer) (wide o) (numberOf why) (start-unfit (s o .n) (tags o) (marks o) (log o) (pages o) (count o) (numberOf why) (sym (c .before .before .before .check-tags .ensures) ∙ ap outcomeSaid (c .before .fit .given .1)))
 
 enum-told : tie.Need-enum-told
 enum-told c = search needs
 
--- src/lib.rt:431:9
+-- src/lib.rt:463:9
+returns-2 : tie.Need-returns-2
+returns-2 c = let t = c .before in let o = start t in begin-refused (s o .n) (tags o) (marks o) (log o) (pages o) (count o) (s o .«sync_seqn») (s o .writer) (wide o) 2 (start-pages (s o .n) (tags o) (marks o) (log o) (pages o) (count o) (fits t) (λ e. c .if1 .taken (omega (arith, e))))
+
+-- src/lib.rt:466:9
+returns-3 : tie.Need-returns-3
+returns-3 c = let t = c .before .before in let o = start t in begin-refused (s o .n) (tags o) (marks o) (log o) (pages o) (count o) (s o .«sync_seqn») (s o .writer) (wide o) 2 (start-pages (s o .n) (tags o) (marks o) (log o) (pages o) (count o) (fits t) (λ e. c .if2 .taken (omega (arith, e))))
+
+-- src/lib.rt:468:23
+tag-pages-requires : tie.Need-tag-pages-requires
+tag-pages-requires c κs = search needs
+
+-- src/lib.rt:469:9
+returns-4 : tie.Need-returns-4
+returns-4 c = let e = c .before .before in let t = e .before .before in let o = start t in begin-refused (s o .n) (tags o) (marks o) (log o) (pages o) (count o) (s o .«sync_seqn») (s o .writer) (wide o) 2 (start-marks (s o .n) (tags o) (marks o) (log o) (pages o) (count o) (fits t) (whole e) (λ q. c .if3 .taken (q ∙ sym (c .before .tag-pages .ensures))))
+
+-- src/lib.rt:471:9
+begin-requires : tie.Need-begin-requires
+begin-requires c κs = search needs
+
+-- src/lib.rt:473:29
+enum-known-outcome : tie.Need-enum-known-outcome
+enum-known-outcome c = search needs
+
+-- src/lib.rt:474:9
+same-length : tie.Need-same-length
+same-length c = search needs
+
+-- src/lib.rt:474:9
+returns-5 : tie.Need-returns-5
+returns-5 c = let u = c .before .before .before .before .before .before .before in let e = u .before .before in let t = e .before .before in let o = start t in let b = c .before .before .before .before .before .begin in let why = c .before .outcome .given .0 .0 in let h = sym (b .ensures .0) ∙ ap outcomeSaid (c .before .outcome .given .1) in let g = begin-refused (s o .n) (tags o) (marks o) (log o) (pages o) (count o) (s o .«sync_seqn») (s o .writer) (wide o) (numberOf why) (start-begin (s o .n) (tags o) (marks o) (log o) (pages o) (count o) (fits t) (whole e) (marked u) ∙ h) in (g .0, (ap (memOf (tags o) (marks o) []) (b .ensures .1 .1 ∙ begun-left (log o) (s o .«sync_seqn») (numberOf why) h) ∙ g .1 .0, g .1 .1))
+
+enum-told-2 : tie.Need-enum-told-2
+enum-told-2 c = search needs
+
+-- src/lib.rt:476:5
 zero-all-requires : tie.Need-zero-all-requires
 zero-all-requires c κs = search needs
 
--- src/lib.rt:436:23
+-- src/lib.rt:481:19
 full-tags-requires : tie.Need-full-tags-requires
-full-tags-requires c κs = fits (c .before .before .before .before .before .before .before .before .before .before .before .before .before)
+full-tags-requires c κs = fits (c .before .before .before .before .before .before .before .before .before .before .before .before .before .before)
 
--- src/lib.rt:438:9
+-- src/lib.rt:446:1
 same-length-2 : tie.Need-same-length-2
 same-length-2 c = search needs
 
--- src/lib.rt:438:9
+-- src/lib.rt:446:1
 same-length-3 : tie.Need-same-length-3
 same-length-3 c = search needs
 
--- src/lib.rt:438:9
-returns-5 : tie.Need-returns-5
-returns-5 c = let u = c .before .before .before .before .before .before .before .before .before .before .before in let e = u .before in let t = e .before .before in let o = start t in let b = c .before .before .before .before .before .before .before .before .before .begin in let h = sym (b .ensures .0) ∙ outcome-given (b .result .outcome) (c .before .before .before .before .before .before .match .keys2) in begin-given (n o) (tags o) (marks o) (log o) (pages o) (count o) (sync o) (stateOf (n o) (b .result .writer) (c .full-tags .result)) (memOf (tags o) (c .before .before .before .zero-all .last .0) [] (b .last .0)) (start-begin (n o) (tags o) (marks o) (log o) (pages o) (count o) (fits t) (whole e) (u .if4 .left) ∙ h) (ap₂ (stateOf (n o)) (b .ensures .1 .0 ∙ begun-open (log o) (sync o) h) (c .full-tags .ensures)) (ap₂ (λ (x y : List ℕ). memOf (tags o) x [] y) (c .before .before .before .zero-all .ensures) (b .ensures .1 .1))
-
--- src/lib.rt:405:1
+-- src/lib.rt:446:1
 returns-6 : tie.Need-returns-6
-returns-6 c = let t = c .before in let o = t .before .before .before .before .before in begin-refused (n o) (tags o) (marks o) (log o) (pages o) (count o) (sync o) 1 (start-unfit (n o) (tags o) (marks o) (log o) (pages o) (count o) (sym (t .tags-fit .ensures) ∙ c .if1 .left))
+returns-6 c = let u = c .before .before .before .before .before .before .before .before .before .before .before in let e = u .before .before in let t = e .before .before in let o = start t in let b = c .before .before .before .before .before .before .before .before .before .begin in let h = sym (b .ensures .0) ∙ ap outcomeSaid (c .before .before .before .before .before .enum-told2 .given .1) in begin-given (s o .n) (tags o) (marks o) (log o) (pages o) (count o) (s o .«sync_seqn») (s o .writer) (wide o) (stateOf (s o .n) (b .result .writer) (c .full-tags .result)) (memOf (tags o) (c .before .before .before .zero-all .last .0) [] (b .last .0)) (start-begin (s o .n) (tags o) (marks o) (log o) (pages o) (count o) (fits t) (whole e) (marked u) ∙ h) (ap₂ (stateOf (s o .n)) (b .ensures .1 .0 ∙ begun-open (log o) (s o .«sync_seqn») h) (c .full-tags .ensures)) (ap₂ (λ (x y : List ℕ). memOf (tags o) x [] y) (c .before .before .before .zero-all .ensures) (b .ensures .1 .1))
 
 pub begin-sync-spec : {M : Type 1} → statement M
 begin-sync-spec =
     tie.close
     (tie.spec
-    tags-fit-requires
+    check-tags-requires
+    enum-known-fit
     returns
+    enum-told
     returns-2
-    add-if4
     returns-3
+    tag-pages-requires
+    returns-4
     begin-requires
     enum-known-outcome
     same-length
-    returns-4
-    enum-told
+    returns-5
+    enum-told-2
     zero-all-requires
     full-tags-requires
     same-length-2
     same-length-3
-    returns-5
     returns-6)

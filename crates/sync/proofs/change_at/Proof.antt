@@ -1,13 +1,17 @@
--- The page of the change is lent to the step, and its answer told on. Assumes nothing.
+-- A sync that was refused stays as it is. Else the page of the change is lent to the step, and its answer told on. Assumes nothing.
 use mathlib.Core.Path.{_≡_, refl, sym, ap, ap₂, _∙_}
 use mathlib.Core.List.{List, []}
 use mathlib.Core.Logic.{⊎-elim}
 use Prim.Native.Nat.{ℕ, _+_, _*_, _/_, _-_, _≤_, _<_}
 use native.Mathlib.Omega.{arith}
 use lib.ListN.{length, take, drop}
-use Rattle.sync.specs.Change.{memOf}
-use Rattle.sync.specs.Sync.{pageOf}
-use Rattle.sync.proofs.StartLaws.{page-there, page-none, change-refused, change-given, change-mem}
+use Rattle.sync.specs.Change.{Mem, memOf}
+use Rattle.sync.specs.Sync.{pageOf, runSaid, changeGoing, changeLeft}
+use Rattle.sync.specs.declared.Change.{Change}
+use Rattle.sync.specs.declared.Run.{Run}
+use Rattle.sync.specs.declared.SyncState.{SyncState}
+use Rattle.sync.specs.declared.Run.the-variants as run
+use Rattle.sync.proofs.StartLaws.{page-there, page-none, change-none, change-refused, change-given, change-mem}
 use borrow.Author.Needs.{needs}
 use Rattle.sync.proofs.change_at.Statement.{statement}
 use Rattle.sync.proofs.change_at.Tie as tie
@@ -15,13 +19,28 @@ use Rattle.sync.proofs.change_at.Reads as reads
 use Rattle.sync.proofs.change_at.Lts as lts
 use Rattle.sync.proofs.step.Reads as step-reads
 
--- the part that is lent lies within the pages, and is the change's page
+-- the state that the sync goes on with; the part of the pages that is lent lies within them, and is the change's page
 module _ (c : tie.Joined1) where
+  abbrev o : tie.Start
+  o = c .before .before .before .before .before .before .before .before .before
+
+  abbrev ch : Change
+  ch = o .args .c
+
+  abbrev st : SyncState
+  st = c .before .before .run .given .0 .0
+
+  is-on : o .args .run ≡ run.On st
+  is-on = c .before .before .run .given .1
+
+  abbrev m : Mem
+  m = memOf (o .args .tags .now) (o .args .marks .now) (o .args .cells .now) (o .args .log .now)
+
   abbrev pages : List ℕ
-  pages = c .before .before .before .before .before .before .args .pages .now
+  pages = o .args .pages .now
 
   abbrev j : ℕ
-  j = c .before .before .before .before .before .before .args .j
+  j = o .args .j
 
   abbrev a : ℕ
   a = c .if1 .a
@@ -29,13 +48,16 @@ module _ (c : tie.Joined1) where
   abbrev e : ℕ
   e = c .if1 .e
 
+  abbrev page : List ℕ
+  page = take (e - a) (drop a pages)
+
   order : a ≤ e
   order = ⊎-elim (λ h. omega (arith, h .1, h .2)) (λ h. omega (arith, h .1, h .2)) (c .if1 .came)
 
   reach : e ≤ length pages
   reach = ⊎-elim (λ h. omega (arith, h .0 .taken, h .1, h .2)) (λ h. omega (arith, h .1, h .2)) (c .if1 .came)
 
-  same : take (e - a) (drop a pages) ≡ pageOf pages j
+  same : page ≡ pageOf pages j
   same =
       ⊎-elim
       (λ h.
@@ -46,81 +68,98 @@ module _ (c : tie.Joined1) where
       ap₂ (λ (x y : ℕ). take x (drop y pages)) k (h .1) ∙ sym (page-none pages j (h .0 .left)))
       (c .if1 .came)
 
--- src/lib.rt:357:13
+  -- what it is told on of: the sync as it was lent
+  as-going : changeGoing m pages ch j (runSaid (run.On st)) ≡ changeGoing m pages ch j (runSaid (o .args .run))
+  as-going = sym (ap (λ (x : Run). changeGoing m pages ch j (runSaid x)) is-on)
+
+  as-left : changeLeft m pages ch j (runSaid (run.On st)) ≡ changeLeft m pages ch j (runSaid (o .args .run))
+  as-left = sym (ap (λ (x : Run). changeLeft m pages ch j (runSaid x)) is-on)
+
+-- src/lib.rt:415:17
+enum-known-run : tie.Need-enum-known-run
+enum-known-run c = search needs
+
+-- src/lib.rt:416:9
+returns : tie.Need-returns
+returns c = let x = c .before .before .before .before .before .before .args in change-none (memOf (x .tags .now) (x .marks .now) (x .cells .now) (x .log .now)) (x .pages .now) (x .c) (x .j) (x .run) (c .match .keys2)
+
+-- src/lib.rt:421:13
 mul-a : tie.Need-mul-a
 mul-a c = search needs
 
--- src/lib.rt:358:13
+-- src/lib.rt:422:13
 add-e : tie.Need-add-e
 add-e c = search needs
 
--- src/lib.rt:360:43
+-- src/lib.rt:424:43
 sub-step : tie.Need-sub-step
 sub-step c = order (c .before .before .before .before .before .before)
 
--- src/lib.rt:360:43
+-- src/lib.rt:424:43
 part-step-start : tie.Need-part-step-start
 part-step-start c = omega (arith, order (c .before .before .before .before .before .before), reach (c .before .before .before .before .before .before))
 
--- src/lib.rt:360:43
+-- src/lib.rt:424:43
 part-step-end : tie.Need-part-step-end
 part-step-end c = omega (arith, reach (c .before .before .before .before .before .before))
 
--- src/lib.rt:360:9
+-- src/lib.rt:424:9
 step-requires : tie.Need-step-requires
 step-requires c κs = search needs
 
--- src/lib.rt:363:27
+-- src/lib.rt:426:27
 enum-known-t : tie.Need-enum-known-t
 enum-known-t c = search needs
 
--- src/lib.rt:364:9
+-- src/lib.rt:427:9
 same-length : tie.Need-same-length
 same-length c = search needs
 
--- src/lib.rt:364:9
+-- src/lib.rt:427:9
 same-length-2 : tie.Need-same-length-2
 same-length-2 c = search needs
 
--- src/lib.rt:364:9
+-- src/lib.rt:427:9
 same-length-3 : tie.Need-same-length-3
 same-length-3 c = search needs
 
--- src/lib.rt:364:9
+-- src/lib.rt:427:9
 same-length-4 : tie.Need-same-length-4
 same-length-4 c = search needs
 
--- src/lib.rt:364:9
-returns : tie.Need-returns
-returns c = let u = c .before .before .before .before .before .before .before .before .before .before .before .before in let q = u .before .before .before .before .before .before .before .before in let x = q .before .before .before .before .before .before .args in let m = memOf (x .tags .now) (x .marks .now) (x .cells .now) (x .log .now) in let page = take (e q - a q) (drop (a q) (pages q)) in let r = u .step in (change-refused (x .st) m (pages q) page (x .c) (j q) (same q) (r .result .taken) (r .result .state) (r .ensures .taken) (r .ensures .state) (c .before .t .given .0 .0) (c .before .t .given .1), change-mem (x .st) m (pages q) page (x .c) (j q) (same q) (memOf (r .last .0) (r .last .1 .0) (r .last .1 .1 .0) (r .last .1 .1 .1 .0)) (r .ensures .memory))
+-- src/lib.rt:427:9
+returns-2 : tie.Need-returns-2
+returns-2 c = let u = c .before .before .before .before .before .before .before .before .before .before .before in let q = u .before .before .before .before .before .before .before .before in let r = u .step in (change-refused (st q) (m q) (pages q) (page q) (ch q) (j q) (same q) (r .result .taken) (r .ensures .taken) (c .before .t .given .0 .0) (c .before .t .given .1) ∙ as-going q, change-mem (st q) (m q) (pages q) (page q) (ch q) (j q) (same q) (memOf (r .last .0) (r .last .1 .0) (r .last .1 .1 .0) (r .last .1 .1 .1 .0)) (r .ensures .memory) ∙ as-left q)
 
 enum-told : tie.Need-enum-told
 enum-told c = search needs
 
--- src/lib.rt:342:1
+-- src/lib.rt:403:1
 same-length-5 : tie.Need-same-length-5
 same-length-5 c = search needs
 
--- src/lib.rt:342:1
+-- src/lib.rt:403:1
 same-length-6 : tie.Need-same-length-6
 same-length-6 c = search needs
 
--- src/lib.rt:342:1
+-- src/lib.rt:403:1
 same-length-7 : tie.Need-same-length-7
 same-length-7 c = search needs
 
--- src/lib.rt:342:1
+-- src/lib.rt:403:1
 same-length-8 : tie.Need-same-length-8
 same-length-8 c = search needs
 
--- src/lib.rt:342:1
-returns-2 : tie.Need-returns-2
-returns-2 c = let u = c .before .before .before .before .before .before .before .before .before .before .before in let q = u .before .before .before .before .before .before .before .before in let x = q .before .before .before .before .before .before .args in let m = memOf (x .tags .now) (x .marks .now) (x .cells .now) (x .log .now) in let page = take (e q - a q) (drop (a q) (pages q)) in let r = u .step in (change-given (x .st) m (pages q) page (x .c) (j q) (same q) (r .result .taken) (r .result .state) (r .ensures .taken) (r .ensures .state) (c .before .match .keys2), change-mem (x .st) m (pages q) page (x .c) (j q) (same q) (memOf (r .last .0) (r .last .1 .0) (r .last .1 .1 .0) (r .last .1 .1 .1 .0)) (r .ensures .memory))
+-- src/lib.rt:403:1
+returns-3 : tie.Need-returns-3
+returns-3 c = let u = c .before .before .before .before .before .before .before .before .before .before .before in let q = u .before .before .before .before .before .before .before .before in let r = u .step in (change-given (st q) (m q) (pages q) (page q) (ch q) (j q) (same q) (r .result .taken) (r .ensures .taken) (r .result .state) (r .ensures .state) (c .before .before .match2 .keys2) ∙ as-going q, change-mem (st q) (m q) (pages q) (page q) (ch q) (j q) (same q) (memOf (r .last .0) (r .last .1 .0) (r .last .1 .1 .0) (r .last .1 .1 .1 .0)) (r .ensures .memory) ∙ as-left q)
 
 pub change-at-spec : {M : Type 1} → statement M
 change-at-spec =
     tie.close
     (tie.spec
+    enum-known-run
+    returns
     mul-a
     add-e
     sub-step
@@ -132,10 +171,10 @@ change-at-spec =
     same-length-2
     same-length-3
     same-length-4
-    returns
+    returns-2
     enum-told
     same-length-5
     same-length-6
     same-length-7
     same-length-8
-    returns-2)
+    returns-3)
