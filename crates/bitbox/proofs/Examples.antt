@@ -6,7 +6,7 @@ use Prim.Native.Nat.{ℕ}
 use lib.Ieee.{binary64}
 use lib.Ieee as Ieee
 use Rattle.answers.specs.Answers.{given, refused}
-use Rattle.probe.specs.Path.{emptyAt, tombstoneAt, hitAt, closed, foundAt, absent, unreached}
+use Rattle.probe.specs.Path.{emptyAt, tombstoneAt, hitAt, closed, foundAt, absent, unreached, hitLimit}
 use Rattle.wal.specs.declared.Writer.the-variants.{Fresh, Open, Finished}
 use Rattle.wal_read.specs.Head.{aClear, anUpdate, theEnd, aRefusal}
 use Rattle.wal_read.specs.Entry.{clears, updates, ends, refuses}
@@ -53,8 +53,8 @@ pub writers : (map writerOf (record { kind = 0; at = 5 } ∷ record { kind = 1; 
 writers = (refl, refl, refl)
 
 -- a sync's state, both ways, a change and a whole sync
-pub syncs : (stateOf (record { n = 3; writer = record { kind = 1; at = 5 }; occupied = 2 }) ≡ record { n = 3; writer = Open 5; occupied = 2 })
-    × (stateWords (record { n = 3; writer = Open 5; occupied = 2 }) ≡ record { n = 3; writer = record { kind = 1; at = 5 }; occupied = 2 })
+pub syncs : (stateOf (record { n = 3; writer = record { kind = 1; at = 5 }; occupied = 2 }) ≡ record { n = 3; limit = hitLimit; writer = Open 5; occupied = 2 })
+    × (stateWords (record { n = 3; limit = hitLimit; writer = Open 5; occupied = 2 }) ≡ record { n = 3; writer = record { kind = 1; at = 5 }; occupied = 2 })
     × (map (λ a. stepWords a (record { n = 3; writer = record { kind = 1; at = 5 }; occupied = 2 })) (given (1, 2) ∷ refused 14 ∷ [])
     ≡ record { refusal = 0; bucket = 1; page = 2; state = record { n = 3; writer = record { kind = 1; at = 5 }; occupied = 2 } }
     ∷ record { refusal = 14; bucket = 0; page = 0; state = record { n = 3; writer = record { kind = 1; at = 5 }; occupied = 2 } } ∷ [])

@@ -9,7 +9,7 @@ use lib.Ieee.{Float, binary64}
 use lib.Ieee as Ieee
 use lib.Dec.{eqb}
 use Rattle.answers.specs.Answers.{Answer, given, refused}
-use Rattle.probe.specs.Path.{Probe, emptyAt, tombstoneAt, hitAt, closed, Sought, foundAt, absent, unreached}
+use Rattle.probe.specs.Path.{Probe, emptyAt, tombstoneAt, hitAt, closed, Sought, foundAt, absent, unreached, hitLimit}
 use Rattle.wal.specs.Reader.{Next}
 use Rattle.wal.specs.declared.Writer.{Writer}
 use Rattle.wal.specs.declared.Writer.the-variants.{Fresh, Open, Finished}
@@ -153,7 +153,7 @@ finishedWords (refused k) w = written k 0 (writerWords w)
 
 -- a sync's state
 abbrev pub stateOf : StepState → SyncState
-stateOf s = record { n = s .n; writer = writerOf (s .writer); occupied = s .occupied }
+stateOf s = record { n = s .n; limit = hitLimit; writer = writerOf (s .writer); occupied = s .occupied }
 
 abbrev pub stateAs : ℕ → WriterState → ℕ → StepState
 stateAs n w o = record { n = n; writer = w; occupied = o }

@@ -966,6 +966,7 @@ fn state_of(st: StepState) -> sync::SyncState
 {
     sync::SyncState {
         n: st.n as usize,
+        limit: probe::hit_limit(),
         writer: writer_of(st.writer),
         occupied: st.occupied,
     }

@@ -12,7 +12,7 @@ use Rattle.answers.proofs.Laws.{given-refused}
 use Rattle.ht_file.specs.Places.{tagsFit, tagPages}
 use Rattle.ht_file.proofs.Laws.{both-hold}
 use Rattle.page_diff.specs.Diff.{countOf}
-use Rattle.probe.specs.Path.{allocating, hitLimit}
+use Rattle.probe.specs.Path.{allocating}
 use Rattle.wal.specs.Log.{markSize, clearSize, updateSize}
 use Rattle.wal.specs.Writer.{position, capacity, ifOpen}
 use Rattle.wal.specs.declared.Writer.{Writer}
@@ -53,7 +53,7 @@ module _ (st : SyncState) (m : Mem) (c : Change) where
   big = updateSize (countOf (c .diff .words))
 
   abbrev found : Answer ℕ
-  found = allocating hitLimit (m .tags) (st .n) (c .hash)
+  found = allocating (st .limit) (m .tags) (st .n) (c .hash)
 
   pub after-cleared : (a : Answer Does) (b : ℕ) → afterDoes st m c a ≡ given (cleared b) → (a ≡ given (clears b)) × (room clearSize ≡ true)
   after-cleared (refused k) b h = absurd (given-refused (cleared b) k (sym h))

@@ -10,7 +10,7 @@ use Rattle.answers.specs.declared.Refusal.the-variants.{LengthUnfit, BucketOuts
 use Rattle.blocks.specs.Blocks.{block, put, flat}
 use Rattle.meta_map.specs.Tags.{countOf}
 use Rattle.page_diff.specs.Diff.{marked, slotsBelow}
-use Rattle.probe.specs.Path.{allocating}
+use Rattle.probe.specs.Path.{allocating, hitLimit}
 use Rattle.wal.specs.Log.{Entry, clear, update, recordOf, recordsOf}
 use Rattle.wal.specs.Reader.{startOf, next, nextAt, readIn, readBy}
 use Rattle.wal.specs.Run.{logOf}
@@ -63,18 +63,18 @@ abbrev stepped : SyncState → Mem → List ℕ → Change → Answer (ℕ × �
 stepped st m p c = pageNumber st (effectOf st m p c)
 
 abbrev open5 : SyncState
-open5 = stateOf 3 (Open 5) 5
+open5 = stateOf 3 hitLimit (Open 5) 5
 
 abbrev asked : List ℕ → List ℕ → Change → Answer (ℕ × ℕ)
 asked ts cells c = stepped open5 (mem ts cells) page c
 
 -- "1, 2 (page, marks), 12"; "each change: 4, cell index 2, 9, 14, 13, 10 or 11"; then what is accepted
-pub steps : (stepped (stateOf 0 Fresh 5) (mem (tags 0 0 0) []) [] (reserved (Cell 0)) ∷ stepped (stateOf 4097 Fresh 5) (mem (tags 0 0 0) []) page (reserved (Cell 0))
-    ∷ stepped (stateOf 3 Fresh 5) (mem (tags 0 0 0) []) [] (reserved (Cell 0)) ∷ stepped (stateOf 3 Fresh 5) (memOf (tags 0 0 0) [] [] []) page (reserved (Cell 0))
-    ∷ stepped (stateOf 3 Fresh 5) (mem (tags 0 0 0) []) page (reserved (Cell 0)) ∷ stepped (stateOf 3 (Finished 4096) 5) (mem (tags 0 0 0) []) page (reserved (Cell 0)) ∷ [])
+pub steps : (stepped (stateOf 0 hitLimit Fresh 5) (mem (tags 0 0 0) []) [] (reserved (Cell 0)) ∷ stepped (stateOf 4097 hitLimit Fresh 5) (mem (tags 0 0 0) []) page (reserved (Cell 0))
+    ∷ stepped (stateOf 3 hitLimit Fresh 5) (mem (tags 0 0 0) []) [] (reserved (Cell 0)) ∷ stepped (stateOf 3 hitLimit Fresh 5) (memOf (tags 0 0 0) [] [] []) page (reserved (Cell 0))
+    ∷ stepped (stateOf 3 hitLimit Fresh 5) (mem (tags 0 0 0) []) page (reserved (Cell 0)) ∷ stepped (stateOf 3 hitLimit (Finished 4096) 5) (mem (tags 0 0 0) []) page (reserved (Cell 0)) ∷ [])
     ∷ (asked (tags 0 0 0) [] (reserved (Cell 0)) ∷ asked (tags 0 0 0) [] (updating (Cell 0)) ∷ asked (tags 0 0 0) (3 ∷ []) (updating (Cell 0)) ∷ asked (tags 0 0 0) [] (clearing (Known 3))
     ∷ asked (tags 0x7F 0 0) [] (clearing (Known 0)) ∷ asked (tags 0 0 0) [] (clearing FreshPage) ∷ asked (tags 0 0 0) (unset ∷ []) (clearing (Cell 0)) ∷ asked (tags 0x81 0 0) [] (updating (Known 0)) ∷ [])
-    ∷ (stepped (stateOf 3 (Open 4087) 5) (mem (tags 0x81 0 0) []) page (clearing (Known 0)) ∷ stepped (stateOf 3 (Open 3999) 5) (mem (tags 0x81 0x81 0) []) page (updating FreshPage)
+    ∷ (stepped (stateOf 3 hitLimit (Open 4087) 5) (mem (tags 0x81 0 0) []) page (clearing (Known 0)) ∷ stepped (stateOf 3 hitLimit (Open 3999) 5) (mem (tags 0x81 0x81 0) []) page (updating FreshPage)
     ∷ asked (tags 0x80 0x81 0) [] (updating FreshPage) ∷ asked (tags 0x81 0x81 0) [] (updating FreshPage) ∷ [])
     ∷ (asked (tags 0 0x85 0) [] (clearing (Known 1)) ∷ asked (tags 0x80 0 0) [] (updating (Known 0)) ∷ asked (tags 0x81 0x7F 0) [] (updating FreshPage)
     ∷ asked (tags 0 0 0x80) (2 ∷ []) (updating (Cell 0)) ∷ asked (tags 0 0 0) (unset ∷ []) (updating (Cell 0)) ∷ []) ∷ []
@@ -107,9 +107,9 @@ memories = refl
 abbrev far : Mem
 far = memOf (replicate 4096 0 ++ (0x85 ∷ replicate 4095 0)) (9 ∷ 9 ∷ []) [] (replicate 4096 6)
 
-pub second-page : (effectOf (stateOf 4097 (Open 5) 5) far page (clearing (Known 4096)) ≡ given (cleared 4096))
-    × (memBy (given (cleared 4096)) (stateOf 4097 (Open 5) 5) far page (clearing (Known 4096)) .marks ≡ 9 ∷ 1 ∷ [])
-    × (pageNumber (stateOf 4097 (Open 5) 5) (given (cleared 4096)) ≡ given (4096, 4098))
+pub second-page : (effectOf (stateOf 4097 hitLimit (Open 5) 5) far page (clearing (Known 4096)) ≡ given (cleared 4096))
+    × (memBy (given (cleared 4096)) (stateOf 4097 hitLimit (Open 5) 5) far page (clearing (Known 4096)) .marks ≡ 9 ∷ 1 ∷ [])
+    × (pageNumber (stateOf 4097 hitLimit (Open 5) 5) (given (cleared 4096)) ≡ given (4096, 4098))
 unfolding effectOf allocating marked slotsBelow
 second-page = (refl, refl, refl)
 
@@ -119,9 +119,9 @@ stateLeft ts c = stateBy (effectOf open5 (mem ts []) page c) open5 c
 -- and the state: "occupied falls by one", stays, "rises by one"; a refusal leaves it; a false number stays within its
 -- type
 pub states : stateLeft (tags 0 0x85 0) (clearing (Known 1)) ∷ stateLeft (tags 0x80 0 0) (updating (Known 0)) ∷ stateLeft (tags 0x81 0x7F 0) (updating FreshPage) ∷ stateLeft (tags 0x81 0 0) (updating (Known 0))
-    ∷ stateBy (effectOf (stateOf 3 (Open 5) 0) (mem (tags 0x85 0 0) []) page (clearing (Known 0))) (stateOf 3 (Open 5) 0) (clearing (Known 0))
-    ∷ stateBy (effectOf (stateOf 3 (Open 5) (2 ^ 64 - 1)) (mem (tags 0 0 0) []) page (updating FreshPage)) (stateOf 3 (Open 5) (2 ^ 64 - 1)) (updating FreshPage) ∷ []
-    ≡ stateOf 3 (Open 14) 4 ∷ stateOf 3 (Open 102) 5 ∷ stateOf 3 (Open 102) 6 ∷ stateOf 3 (Open 5) 5 ∷ stateOf 3 (Open 14) 0 ∷ stateOf 3 (Open 102) (2 ^ 64 - 1) ∷ []
+    ∷ stateBy (effectOf (stateOf 3 hitLimit (Open 5) 0) (mem (tags 0x85 0 0) []) page (clearing (Known 0))) (stateOf 3 hitLimit (Open 5) 0) (clearing (Known 0))
+    ∷ stateBy (effectOf (stateOf 3 hitLimit (Open 5) (2 ^ 64 - 1)) (mem (tags 0 0 0) []) page (updating FreshPage)) (stateOf 3 hitLimit (Open 5) (2 ^ 64 - 1)) (updating FreshPage) ∷ []
+    ≡ stateOf 3 hitLimit (Open 14) 4 ∷ stateOf 3 hitLimit (Open 102) 5 ∷ stateOf 3 hitLimit (Open 102) 6 ∷ stateOf 3 hitLimit (Open 5) 5 ∷ stateOf 3 hitLimit (Open 14) 0 ∷ stateOf 3 hitLimit (Open 102) (2 ^ 64 - 1) ∷ []
 unfolding effectOf allocating marked slotsBelow
 states = refl
 
@@ -166,7 +166,7 @@ pub placed : map placeOf (Known 7 ∷ FreshPage ∷ Cell 7 ∷ []) ≡ record { 
 placed = refl
 
 -- each case of the code's answers
-pub said : (map takenSaid (taken.At 1 2 ∷ taken.Refused BucketUnfit ∷ []) ≡ given (1, 2) ∷ refused 14 ∷ []) × (map runSaid (run.On (stateOf 3 (Open 5) 2) ∷ run.Refused NoRoom (Open 77) ∷ run.RefusedAt 1 BucketOutside ∷ []) ≡ on (stateOf 3 (Open 5) 2) ∷ unbegun 13 (Open 77) ∷ stopped 1 9 ∷ [])
+pub said : (map takenSaid (taken.At 1 2 ∷ taken.Refused BucketUnfit ∷ []) ≡ given (1, 2) ∷ refused 14 ∷ []) × (map runSaid (run.On (stateOf 3 hitLimit (Open 5) 2) ∷ run.Refused NoRoom (Open 77) ∷ run.RefusedAt 1 BucketOutside ∷ []) ≡ on (stateOf 3 hitLimit (Open 5) 2) ∷ unbegun 13 (Open 77) ∷ stopped 1 9 ∷ [])
     × (map syncedSaid (synced.Done 2 4096 ∷ synced.Refused LengthUnfit ∷ synced.RefusedAt 1 NoRoom ∷ []) ≡ saidDone 2 4096 ∷ saidRefused 2 ∷ saidRefusedAt 1 13 ∷ [])
 said = (refl, refl, refl)
 

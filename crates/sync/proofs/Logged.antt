@@ -15,7 +15,7 @@ use Rattle.blocks.proofs.Laws.{block-length}
 use Rattle.ht_file.specs.Places.{tagsFit, tagPages}
 use Rattle.ht_file.proofs.Laws.{tags-fit-facts}
 use Rattle.page_diff.specs.Diff.{reserved, countOf}
-use Rattle.probe.specs.Path.{allocating, hitLimit, allocateAnswer}
+use Rattle.probe.specs.Path.{allocating, allocateAnswer}
 use Rattle.probe.proofs.Allocating.{answer-below}
 use Rattle.wal.specs.Log.{Entry, startSize, recordsOf, clearSize, updateSize, finishedLength}
 use Rattle.wal.specs.Reader.{Reading, startOf, readLog}
@@ -84,8 +84,8 @@ module _ (log₀ : List ℕ) (sync : ℕ) (st : SyncState) (m : Mem) (page : Lis
   change-logged (allocated b) h =
       let a = accepted-change st m page c (allocated b) h in
       let d = after-allocated st m c (doesOf (st .n) (m .tags) (m .cells) c) b (a .2) in
-      let f : allocateAnswer hitLimit (m .tags) (st .n) (c .hash) ≡ given b = ap (λ (t : Bool). cond t (allocating hitLimit (m .tags) (st .n) (c .hash)) (refused 1)) (a .0) ∙ d .2 in
-      page-went b (small b (answer-below hitLimit (m .tags) (st .n) (c .hash) b f .0) (a .0)) (a .1) (does-allocates (st .n) (m .tags) (m .cells) c (d .0)) (d .1)
+      let f : allocateAnswer (st .limit) (m .tags) (st .n) (c .hash) ≡ given b = ap (λ (t : Bool). cond t (allocating (st .limit) (m .tags) (st .n) (c .hash)) (refused 1)) (a .0) ∙ d .2 in
+      page-went b (small b (answer-below (st .limit) (m .tags) (st .n) (c .hash) b f .0) (a .0)) (a .1) (does-allocates (st .n) (m .tags) (m .cells) c (d .0)) (d .1)
 
 -- the changes, as far as they came, are a run of that many calls more
 abbrev Runs : List ℕ → ℕ → List ℕ → List Change → Type 0

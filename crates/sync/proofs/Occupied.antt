@@ -12,7 +12,7 @@ use Rattle.ht_file.specs.Places.{tagsFit, tagPages}
 use Rattle.ht_file.proofs.Laws.{tags-fit-facts}
 use Rattle.meta_map.specs.Tags.{Kind, empty, tombstone, full, other, isKind, kindOf, fullTag, countOf, one}
 use Rattle.meta_map.proofs.Laws.{full-tag-kind, count-set, count-le}
-use Rattle.probe.specs.Path.{isFree, allocating, allocateAnswer, hitLimit}
+use Rattle.probe.specs.Path.{isFree, allocating, allocateAnswer}
 use Rattle.probe.proofs.Promises.{AllocatedAt, allocated-bucket}
 use Rattle.wal.specs.Writer.{finishAnswer}
 use Rattle.sync.specs.Change.{Mem, memOf, doesOf, Effect, cleared, updated, allocated, effectOf, tagsIf, memBy, stateBy}
@@ -46,7 +46,7 @@ module _ (st : SyncState) (m : Mem) (page : List ℕ) (c : Change) where
       let a = accepted-change st m page c (allocated b) h in
       let f = tags-fit-facts (st .n) (length (m .tags)) (a .0) in
       let g = after-allocated st m c (doesOf (st .n) (m .tags) (m .cells) c) b (a .2) .2 in
-      let r = allocated-bucket hitLimit (m .tags) (st .n) (c .hash) b (ap (λ (t : Bool). cond t (allocating hitLimit (m .tags) (st .n) (c .hash)) (refused 1)) (a .0) ∙ g) in
+      let r = allocated-bucket (st .limit) (m .tags) (st .n) (c .hash) b (ap (λ (t : Bool). cond t (allocating (st .limit) (m .tags) (st .n) (c .hash)) (refused 1)) (a .0) ∙ g) in
       let l : b < st .n = r .1 .below in
       omega (arith, count-set full (m .tags) b (fullTag (c .hash)) (st .n) l (omega arith), ap one (free-not-full (kindOf (getD (m .tags) b 0)) (kind-taken st m page c (allocated b) h)), ap (λ (x : Kind). one (isKind full x)) (full-tag-kind (c .hash)), count-le full (m .tags) (st .n))
 

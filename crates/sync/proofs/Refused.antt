@@ -17,7 +17,7 @@ use Rattle.ht_file.specs.Places.{tagsFit, tagPages}
 use Rattle.meta_map.specs.Tags.{fullTag}
 use Rattle.page_diff.specs.Diff.{marked, countOf}
 use Rattle.probe.specs.declared.Limit.{Limit}
-use Rattle.probe.specs.Path.{allocating, hitLimit}
+use Rattle.probe.specs.Path.{allocating}
 use Rattle.probe.proofs.Allocating.{refused-numbers}
 use Rattle.wal.specs.Log.{recordOf, startRecord, startSize, finishedLength, clearSize, updateSize}
 use Rattle.wal.specs.Writer.{openAt, position, capacity, ifOpen, ifRoom, beginAnswer, beginLog, logBy, finishAnswer}
@@ -201,7 +201,7 @@ module _ (st : SyncState) (m : Mem) (c : Change) (k : ℕ) where
   ahead-number (given (clears b)) f q = with-room (room st m c clearSize) (given (cleared b)) (λ z. absurd (given-refused (cleared b) k z)) q
   ahead-number (given (updates b)) f q = with-room (room st m c (updateSize (countOf (c .diff .words)))) (given (updated b)) (λ z. absurd (given-refused (updated b) k z)) q
   ahead-number (given allocates) f q =
-      with-room (room st m c (updateSize (countOf (c .diff .words)))) (byBucket (allocating hitLimit (m .tags) (st .n) (c .hash))) (by-bucket (allocating hitLimit (m .tags) (st .n) (c .hash)) (allocation-number hitLimit (m .tags) (st .n) (c .hash) k)) q
+      with-room (room st m c (updateSize (countOf (c .diff .words)))) (byBucket (allocating (st .limit) (m .tags) (st .n) (c .hash))) (by-bucket (allocating (st .limit) (m .tags) (st .n) (c .hash)) (allocation-number (st .limit) (m .tags) (st .n) (c .hash) k)) q
 
 -- within a sync what a step tests of its own holds: the lengths fit, and the writer is open
 record Fit (st : SyncState) (m : Mem) : Type 0 where

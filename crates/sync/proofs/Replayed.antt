@@ -8,7 +8,7 @@ use lib.ListN.{length, take}
 use borrow.Author.Tests.{lt-ltb}
 use Rattle.answers.specs.Answers.{Answer, given, refused}
 use Rattle.ht_file.specs.Places.{imageFits}
-use Rattle.probe.specs.Path.{allocating, hitLimit, allocateAnswer}
+use Rattle.probe.specs.Path.{allocating, allocateAnswer}
 use Rattle.probe.proofs.Allocating.{answer-below}
 use Rattle.recover.specs.Replay.{applied, allInside, updatesIn, replayAnswer}
 use Rattle.recover.proofs.Acceptance.{finished-accepted}
@@ -30,7 +30,7 @@ bucket-inside st m page c (updated b) h =
 bucket-inside st m page c (allocated b) h =
     let a = accepted-change st m page c (allocated b) h in
     let d = after-allocated st m c (doesOf (st .n) (m .tags) (m .cells) c) b (a .2) in
-    answer-below hitLimit (m .tags) (st .n) (c .hash) b (ap (λ (t : Bool). cond t (allocating hitLimit (m .tags) (st .n) (c .hash)) (refused 1)) (a .0) ∙ d .2) .0
+    answer-below (st .limit) (m .tags) (st .n) (c .hash) b (ap (λ (t : Bool). cond t (allocating (st .limit) (m .tags) (st .n) (c .hash)) (refused 1)) (a .0) ∙ d .2) .0
 
 -- and so are all entries
 abbrev Inside : List ℕ → List Change → Type 0

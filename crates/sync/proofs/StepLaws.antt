@@ -12,7 +12,8 @@ use denote.Enum.Declared.{tagOf}
 use borrow.Author.Tests.{eq-eqb, ne-eqb}
 use Rattle.answers.specs.Answers.{Answer, given, refused}
 use Rattle.blocks.specs.Blocks.{put}
-use Rattle.ht_file.specs.Places.{tagPages, tagsFit}
+use Rattle.ht_file.specs.Places.{tagPages, tagsFit, bucketPage, ifTable}
+use Rattle.ht_file.proofs.Laws.{table-unfit}
 use Rattle.page_diff.specs.Diff.{countOf, reserved}
 use Rattle.wal.specs.Log.{clear, recordOf, clearSize, updateSize}
 use Rattle.wal.specs.Writer.{position, ifOpen, clearAnswer, recordLog, recordWriter}
@@ -84,9 +85,9 @@ module _ (st : SyncState) (t ks cs l page : List ℕ) (c : Change) where
   ahead = afterDoes st (memOf t ks cs l) c (doesOf (st .n) t cs c)
 
   -- ---- the definition, test by test
-  pub step-unfit : tagsFit (st .n) (length t) ≡ false → effect ≡ refused 1
+  pub step-unfit : (j : ℕ) → ifTable {A = Unit {0}} (tagsFit (st .n) (length t)) (given tt) ≡ refused j → effect ≡ refused j
   unfolding effectOf
-  step-unfit h = simp h
+  step-unfit j e = sym (table-unfit (tagsFit (st .n) (length t)) j _ e)
 
   pub step-page : tagsFit (st .n) (length t) ≡ true → (length page ≡ 4096 → ⊥) → effect ≡ refused 2
   unfolding effectOf
@@ -126,8 +127,8 @@ module _ (st : SyncState) (t ks cs l page : List ℕ) (c : Change) where
         wide = w;
       }
 
-  pub given-left : (e : Effect) (r : StepAnswer) (t′ ks′ cs′ l′ : List ℕ) → effect ≡ given e → takenSaid (r .taken) ≡ given (bucketOf e, tagPages (st .n) + bucketOf e)
-      → r .state ≡ stateOf (st .n) (Open (position (st .writer) + sizeBy c e)) (occupiedBy e (st .occupied)) → t′ ≡ tagsBy e (c .hash) t → ks′ ≡ marksBy e ks → cs′ ≡ cellsBy e (whereOf (c .place)) cs
+  pub given-left : (e : Effect) (r : StepAnswer) (t′ ks′ cs′ l′ : List ℕ) → effect ≡ given e → takenSaid (r .taken) ≡ given (bucketOf e, bucketPage (st .n) (bucketOf e))
+      → r .state ≡ stateOf (st .n) (st .limit) (Open (position (st .writer) + sizeBy c e)) (occupiedBy e (st .occupied)) → t′ ≡ tagsBy e (c .hash) t → ks′ ≡ marksBy e ks → cs′ ≡ cellsBy e (whereOf (c .place)) cs
       → l′ ≡ put l (position (st .writer)) (recordOf (entryBy c page e)) → Wide c → Left r (memOf t′ ks′ cs′ l′)
   given-left e r t′ ks′ cs′ l′ h a b et ek ec el w =
       record {

@@ -10,7 +10,7 @@ use Rattle.answers.specs.Answers.{given, refused}
 use Rattle.meta_map.specs.Tags.{Kind, full, isKind, kindOf, fullTag}
 use Rattle.meta_map.proofs.Laws.{full-tag-kind}
 use Rattle.page_diff.specs.Diff.{marked}
-use Rattle.probe.specs.Path.{allocating, hitLimit}
+use Rattle.probe.specs.Path.{allocating}
 use Rattle.probe.proofs.Promises.{AllocatedAt, allocated-bucket}
 use Rattle.sync.specs.Change.{Mem, clears, updates, Does, doesOf, Effect, cleared, updated, allocated, kindBefore, kindTaken, effectOf}
 use Rattle.sync.specs.declared.Change.{Change}
@@ -39,5 +39,5 @@ module _ (st : SyncState) (m : Mem) (page : List ℕ) (c : Change) where
   kind-taken (allocated b) h =
       let a = accepted-change st m page c (allocated b) h in
       let g = after-allocated st m c (doesOf (st .n) (m .tags) (m .cells) c) b (a .2) .2 in
-      let r = allocated-bucket hitLimit (m .tags) (st .n) (c .hash) b (ap (λ (t : Bool). cond t (allocating hitLimit (m .tags) (st .n) (c .hash)) (refused 1)) (a .0) ∙ g) in
+      let r = allocated-bucket (st .limit) (m .tags) (st .n) (c .hash) b (ap (λ (t : Bool). cond t (allocating (st .limit) (m .tags) (st .n) (c .hash)) (refused 1)) (a .0) ∙ g) in
       r .1 .was-free

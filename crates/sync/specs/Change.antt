@@ -8,10 +8,11 @@ use lib.ListN.{length, getD, set}
 use Rattle.answers.specs.Answers.{Answer, given, refused}
 use Rattle.answers.specs.Refusals.{numberOf}
 use Rattle.blocks.specs.Blocks.{put}
-use Rattle.ht_file.specs.Places.{tagPages, ifTags}
+use Rattle.ht_file.specs.Places.{tagPages, bucketPage, ifTags}
 use Rattle.meta_map.specs.Tags.{Kind, empty, tombstone, full, kindOf, isKind, fullTag}
 use Rattle.page_diff.specs.Diff.{marked, countOf}
-use Rattle.probe.specs.Path.{allocating, hitLimit}
+use Rattle.probe.specs.Path.{allocating}
+use Rattle.probe.specs.declared.Limit.{Limit}
 use Rattle.wal.specs.Log.{Entry, clear, recordOf, clearSize, updateSize}
 use Rattle.wal.specs.Run.{WideChange}
 use Rattle.wal.specs.Writer.{openAt, position, ifOpen, ifRoom}
@@ -123,7 +124,7 @@ afterDoes st m c (refused k) = refused k
 afterDoes st m c (given (clears b)) = ifRoom (m .log) (st .writer) clearSize (given (cleared b))
 afterDoes st m c (given (updates b)) = ifRoom (m .log) (st .writer) (updateSize (countOf (c .diff .words))) (given (updated b))
 afterDoes st m c (given allocates) =
-    ifRoom (m .log) (st .writer) (updateSize (countOf (c .diff .words))) (byBucket (allocating hitLimit (m .tags) (st .n) (c .hash)))
+    ifRoom (m .log) (st .writer) (updateSize (countOf (c .diff .words))) (byBucket (allocating (st .limit) (m .tags) (st .n) (c .hash)))
 
 -- the single step's own refusals first: 1 for the tags, 2 for the page and the marks, 12 for the writer
 unfoldable pub effectOf : SyncState → Mem → List ℕ → Change → Answer Effect
@@ -198,17 +199,17 @@ abbrev pub memBy : Answer Effect → SyncState → Mem → List ℕ → Change �
 memBy a st m page c =
     memOf (tagsIf a (c .hash) (m .tags)) (marksIf a (m .marks)) (cellsIf a (whereOf (c .place)) (m .cells)) (logIf a (st .writer) c page (m .log))
 
-abbrev pub stateOf : ℕ → Writer → ℕ → SyncState
-stateOf n w o = record { n = n; writer = w; occupied = o }
+abbrev pub stateOf : ℕ → Limit → Writer → ℕ → SyncState
+stateOf n limit w o = record { n = n; limit = limit; writer = w; occupied = o }
 
 abbrev pub stateBy : Answer Effect → SyncState → Change → SyncState
 stateBy (refused k) st c = st
-stateBy (given e) st c = stateOf (st .n) (openAt (position (st .writer) + sizeBy c e)) (occupiedBy e (st .occupied))
+stateBy (given e) st c = stateOf (st .n) (st .limit) (openAt (position (st .writer) + sizeBy c e)) (occupiedBy e (st .occupied))
 
 -- "Each step answers bucket and page number M+b"
 abbrev pub pageNumber : SyncState → Answer Effect → Answer (ℕ × ℕ)
 pageNumber st (refused k) = refused k
-pageNumber st (given e) = given (bucketOf e, tagPages (st .n) + bucketOf e)
+pageNumber st (given e) = given (bucketOf e, bucketPage (st .n) (bucketOf e))
 
 abbrev pub takenSaid : Taken → Answer (ℕ × ℕ)
 takenSaid (taken.At b p) = given (b, p)

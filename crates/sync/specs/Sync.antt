@@ -10,11 +10,12 @@ use Rattle.answers.specs.Refusals.{numberOf}
 use Rattle.ht_file.specs.Places.{tagPages, ifTags}
 use Rattle.meta_map.specs.Tags.{full, countOf}
 use Rattle.page_diff.specs.Diff.{marked}
+use Rattle.probe.specs.Path.{hitLimit}
 use Rattle.wal.specs.Log.{Entry, startSize}
 use Rattle.wal.specs.Writer.{openAt, beginAnswer, beginLog, finishAnswer, finishLog, finishWriter}
 use Rattle.wal.specs.declared.Writer.{Writer}
 use Rattle.wal.specs.declared.Writer.the-variants.{Fresh}
-use Rattle.sync.specs.Change.{AllWide, Mem, memOf, Effect, effectOf, entryBy, memBy, stateBy}
+use Rattle.sync.specs.Change.{AllWide, Mem, memOf, Effect, effectOf, entryBy, memBy, stateOf, stateBy}
 use Rattle.sync.specs.declared.Change.{Change}
 use Rattle.sync.specs.declared.SyncState.{SyncState}
 use Rattle.sync.specs.declared.SyncStart.{SyncStart}
@@ -108,12 +109,13 @@ unfoldable pub beforeChanges : ℕ → Mem → List ℕ → ℕ → Answer (Unit
 beforeChanges n m pages count =
     ifTags (m .tags) n (cond (eqb (length pages) (4096 * count) && eqb (length (m .marks)) (tagPages n)) (beginAnswer (m .log)) (refused 2))
 
--- "marks .. zeroed at the start"; "Occupied starts as the number of full tags"; the log is begun
+-- "marks .. zeroed at the start"; the log is begun
 abbrev pub startMem : Mem → ℕ → Mem
 startMem m sync = memOf (m .tags) (replicate (length (m .marks)) 0) (m .cells) (beginLog (m .log) sync)
 
+-- "Occupied starts as the number of full tags"; allocation's limit is "at most 9,998 hits"
 abbrev pub startState : ℕ → Mem → SyncState
-startState n m = record { n = n; writer = openAt startSize; occupied = countOf full (m .tags) n }
+startState n m = stateOf n hitLimit (openAt startSize) (countOf full (m .tags) n)
 
 -- what the whole sync says: occupied and the log's length; a refusal; or a refusal at change j
 pub data SyncSaid : Type 0 where

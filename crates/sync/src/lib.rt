@@ -8,7 +8,7 @@ ghost use Prim.Native.Nat.{_+_, _-_, _/_, _^_, _≤_, _<_, min};
 ghost use lib.ListN.{length, set};
 ghost use Rattle.answers.specs.Answers.{given, refused};
 ghost use Rattle.answers.specs.Refusals.{numberOf};
-ghost use Rattle.ht_file.specs.Places.{tagsFit, tagPages};
+ghost use Rattle.ht_file.specs.Places.{tagsFit, bucketPage};
 ghost use Rattle.meta_map.specs.Tags.{full, countOf};
 ghost use Rattle.sync.specs.Change.{memOf, bucket, whereOf, placeOf, namedBy, tagFits, byNamed, doesOf, cellsAt, takenSaid, StepPromise, stateOf};
 ghost use Rattle.sync.specs.declared.Where.the-variants.{Known, Fresh as FreshPage, Cell};
@@ -21,6 +21,7 @@ use answers::Truth;
 use meta_map::TOMBSTONE;
 use page_diff::Diff;
 use probe::Allocated;
+use probe::Limit;
 use wal::Writer;
 
 // A cell that has no bucket yet.
@@ -57,10 +58,11 @@ pub struct Change {
     pub place: Place,
 }
 
-// What a sync carries from change to change: the count of buckets, where its log stands, and how many
-// buckets are full.
+// What a sync carries from change to change: the count of buckets, how many hits allocation may meet, where
+// its log stands, and how many buckets are full.
 pub struct SyncState {
     pub n: usize,
+    pub limit: Limit,
     pub writer: Writer,
     pub occupied: u64,
 }
@@ -244,6 +246,7 @@ fn look_ahead(tags: &[u8], cells: &[u64], log: &[u8], c: Change, st: SyncState) 
     ensures { λ r. ⌜ LookPromise st (memOf (now (tags .entry)) [] (now (cells .entry)) (now (log .entry))) c r ⌝ }
 {
     let n = st.n;
+    let limit = st.limit;
     let w = st.writer;
     let d = c.diff;
     let planned = plan(tags, n, cells, c);
@@ -263,7 +266,7 @@ fn look_ahead(tags: &[u8], cells: &[u64], log: &[u8], c: Change, st: SyncState) 
         }
         Planned::Allocates => {
             if wal_write::has_room(log.len(), w, wal::UPDATE_SIZE + 32 * page_diff::count(d)) {
-                let found = probe::find_bucket(tags, n, c.hash, probe::hit_limit());
+                let found = probe::find_bucket(tags, n, c.hash, limit);
                 match found {
                     Allocated::At(b) => Outlook::Takes(b),
                     Allocated::Refused(why) => Outlook::Refused(why),
@@ -286,17 +289,20 @@ fn refused_step(why: Refusal, st: SyncState) -> StepAnswer
 }
 
 // An accepted change: its bucket and page number, and the state after it.
-fn taken_step(b: u64, n: usize, writer: Writer, occupied: u64) -> StepAnswer
-    requires { ⌜ (n ≤ 1048576) × (b < n) ⌝ }
-    ensures { λ r. ⌜ (takenSaid (r .taken) ≡ given (b, tagPages n + b)) × (r .state ≡ stateOf n writer occupied) ⌝ }
+fn taken_step(b: u64, st: SyncState, writer: Writer, occupied: u64) -> StepAnswer
+    requires { ⌜ (st .n ≤ 1048576) × (b < st .n) ⌝ }
+    ensures { λ r. ⌜ (takenSaid (r .taken) ≡ given (b, bucketPage (st .n) b)) × (r .state ≡ stateOf (st .n) (st .limit) writer occupied) ⌝ }
 {
+    let n = st.n;
+    let limit = st.limit;
     StepAnswer {
         taken: Taken::At {
             bucket: b,
-            page: ((n + 4095) / 4096) as u64 + b,
+            page: ht_file::tag_pages(n) as u64 + b,
         },
         state: SyncState {
             n,
+            limit,
             writer,
             occupied,
         },
@@ -328,7 +334,7 @@ fn write_tag(tags: &mut [u8], marks: &mut [u8], b: usize, tag: u8)
     requires { ⌜ (b < length (now tags)) × (b / 4096 < length (now marks)) ⌝ }
     ensures { λ _. ⌜ (now (tags .exit) ≡ set (now (tags .entry)) b tag) × (now (marks .exit) ≡ set (now (marks .entry)) (b / 4096) 1) ⌝ }
 {
-    let m = b / 4096;
+    let m = meta_map::page_index(b as u64) as usize;
     tags[b] = tag;
     marks[m] = 1;
 }
@@ -359,43 +365,43 @@ pub fn step(
 {
     let n = st.n;
     let w = st.writer;
-    if ht_file::tags_fit(n, tags.len()) {
-        if page.len() != 4096 {
-            return refused_step(Refusal::LengthUnfit, st);
+    let fit = ht_file::check_tags(n, tags.len());
+    if let Outcome::Refused(why) = fit {
+        return refused_step(why, st);
+    }
+    if page.len() != 4096 {
+        return refused_step(Refusal::LengthUnfit, st);
+    }
+    if marks.len() != ht_file::tag_pages(n) {
+        return refused_step(Refusal::LengthUnfit, st);
+    }
+    let Writer::Open(_) = w else {
+        return refused_step(Refusal::WriterNotOpen, st);
+    };
+    let ahead = look_ahead(&tags[..], &cells[..], &log[..], c, st);
+    let id = c.id;
+    let d = c.diff;
+    let place = c.place;
+    match ahead {
+        Outlook::Refused(why) => refused_step(why, st),
+        Outlook::Clears(b) => {
+            let written = wal_write::write_clear(log, w, b);
+            write_tag(tags, marks, b as usize, TOMBSTONE);
+            let after = written.writer;
+            taken_step(b, st, after, one_less(st.occupied))
         }
-        if marks.len() != (n + 4095) / 4096 {
-            return refused_step(Refusal::LengthUnfit, st);
+        Outlook::Updates(b) => {
+            let written = wal_write::write_page_update(log, w, id, d, page, b);
+            let after = written.writer;
+            taken_step(b, st, after, st.occupied)
         }
-        let Writer::Open(_) = w else {
-            return refused_step(Refusal::WriterNotOpen, st);
-        };
-        let ahead = look_ahead(&tags[..], &cells[..], &log[..], c, st);
-        let id = c.id;
-        let d = c.diff;
-        let place = c.place;
-        match ahead {
-            Outlook::Refused(why) => refused_step(why, st),
-            Outlook::Clears(b) => {
-                let written = wal_write::write_clear(log, w, b);
-                write_tag(tags, marks, b as usize, TOMBSTONE);
-                let after = written.writer;
-                taken_step(b, n, after, one_less(st.occupied))
-            }
-            Outlook::Updates(b) => {
-                let written = wal_write::write_page_update(log, w, id, d, page, b);
-                let after = written.writer;
-                taken_step(b, n, after, st.occupied)
-            }
-            Outlook::Takes(b) => {
-                let written = wal_write::write_page_update(log, w, id, d, page, b);
-                write_tag(tags, marks, b as usize, meta_map::full_entry(c.hash));
-                set_cell(cells, place, b);
-                let after = written.writer;
-                taken_step(b, n, after, one_more(st.occupied))
-            }
+        Outlook::Takes(b) => {
+            let written = wal_write::write_page_update(log, w, id, d, page, b);
+            write_tag(tags, marks, b as usize, meta_map::full_entry(c.hash));
+            set_cell(cells, place, b);
+            let after = written.writer;
+            taken_step(b, st, after, one_more(st.occupied))
         }
-    } else {
-        refused_step(Refusal::TableUnfit, st)
     }
 }
 
@@ -477,6 +483,7 @@ pub fn begin_sync(
     let writer = begun.writer;
     let state = SyncState {
         n,
+        limit: probe::hit_limit(),
         writer,
         occupied: full_tags(tags, n),
     };

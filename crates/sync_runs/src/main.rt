@@ -479,6 +479,7 @@ fn stepped(title: &[u8], writer: Writer, c: Change) {
     let page = [5u8; 4096];
     let st = SyncState {
         n: N,
+        limit: probe::hit_limit(),
         writer,
         occupied: 0,
     };

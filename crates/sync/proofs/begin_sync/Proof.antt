@@ -9,6 +9,8 @@ use Rattle.answers.specs.Answers.{outcomeSaid}
 use Rattle.answers.specs.Refusals.{numberOf}
 use Rattle.ht_file.specs.Places.{tagsFit, tagPages}
 use Rattle.ht_file.proofs.Laws.{table-fits, table-unfit}
+use Rattle.probe.specs.Path.{hitLimit}
+use Rattle.probe.specs.declared.Limit.{Limit}
 use Rattle.sync.specs.Change.{memOf, stateOf}
 use Rattle.sync.specs.declared.SyncStart.{SyncStart}
 use Rattle.sync.proofs.StartLaws.{start-unfit, start-pages, start-marks, start-begin, begin-refused, begin-given, begun-left, begun-open}
@@ -121,9 +123,12 @@ enum-told-2 c = search needs
 zero-all-requires : tie.Need-zero-all-requires
 zero-all-requires c κs = search needs
 
+hit-limit-requires : tie.Need-hit-limit-requires
+hit-limit-requires c κs = search needs
+
 -- src/lib.rt:481:19
 full-tags-requires : tie.Need-full-tags-requires
-full-tags-requires c κs = fits (c .before .before .before .before .before .before .before .before .before .before .before .before .before .before)
+full-tags-requires c κs = fits (c .before .before .before .before .before .before .before .before .before .before .before .before .before .before .before)
 
 -- src/lib.rt:446:1
 same-length-2 : tie.Need-same-length-2
@@ -135,7 +140,7 @@ same-length-3 c = search needs
 
 -- src/lib.rt:446:1
 returns-6 : tie.Need-returns-6
-returns-6 c = let u = c .before .before .before .before .before .before .before .before .before .before .before in let e = u .before .before in let t = e .before .before in let o = start t in let b = c .before .before .before .before .before .before .before .before .before .begin in let h = sym (b .ensures .0) ∙ ap outcomeSaid (c .before .before .before .before .before .enum-told2 .given .1) in begin-given (s o .n) (tags o) (marks o) (log o) (pages o) (count o) (s o .«sync_seqn») (s o .writer) (wide o) (stateOf (s o .n) (b .result .writer) (c .full-tags .result)) (memOf (tags o) (c .before .before .before .zero-all .last .0) [] (b .last .0)) (start-begin (s o .n) (tags o) (marks o) (log o) (pages o) (count o) (fits t) (whole e) (marked u) ∙ h) (ap₂ (stateOf (s o .n)) (b .ensures .1 .0 ∙ begun-open (log o) (s o .«sync_seqn») h) (c .full-tags .ensures)) (ap₂ (λ (x y : List ℕ). memOf (tags o) x [] y) (c .before .before .before .zero-all .ensures) (b .ensures .1 .1))
+returns-6 c = let u = c .before .before .before .before .before .before .before .before .before .before .before .before in let e = u .before .before in let t = e .before .before in let o = start t in let b = c .before .before .before .before .before .before .before .before .before .before .begin in let h = sym (b .ensures .0) ∙ ap outcomeSaid (c .before .before .before .before .before .before .enum-told2 .given .1) in begin-given (s o .n) (tags o) (marks o) (log o) (pages o) (count o) (s o .«sync_seqn») (s o .writer) (wide o) (stateOf (s o .n) (c .before .hit-limit .result) (b .result .writer) (c .full-tags .result)) (memOf (tags o) (c .before .before .before .before .zero-all .last .0) [] (b .last .0)) (start-begin (s o .n) (tags o) (marks o) (log o) (pages o) (count o) (fits t) (whole e) (marked u) ∙ h) (ap (λ (x : Limit). stateOf (s o .n) x (b .result .writer) (c .full-tags .result)) (c .before .hit-limit .ensures) ∙ ap₂ (stateOf (s o .n) hitLimit) (b .ensures .1 .0 ∙ begun-open (log o) (s o .«sync_seqn») h) (c .full-tags .ensures)) (ap₂ (λ (x y : List ℕ). memOf (tags o) x [] y) (c .before .before .before .before .zero-all .ensures) (b .ensures .1 .1))
 
 pub begin-sync-spec : {M : Type 1} → statement M
 begin-sync-spec =
@@ -155,6 +160,7 @@ begin-sync-spec =
     returns-5
     enum-told-2
     zero-all-requires
+    hit-limit-requires
     full-tags-requires
     same-length-2
     same-length-3

@@ -6,8 +6,7 @@ use Rattle.wal_write.specs.Calls.{roomIn}
 use Rattle.wal.specs.Writer.{ifRoom}
 use Rattle.wal.specs.Log.{clearSize, updateSize}
 use Rattle.probe.proofs.Allocating.{answer-below}
-use Rattle.probe.specs.declared.Limit.{Limit}
-use Rattle.probe.specs.Path.{allocating, hitLimit, allocateAnswer, allocatedSaid}
+use Rattle.probe.specs.Path.{allocating, allocateAnswer, allocatedSaid}
 use Rattle.page_diff.proofs.SlotLaws.{slots-few}
 use Rattle.page_diff.specs.Diff.{countOf}
 use Rattle.ht_file.specs.Places.{tagsFit}
@@ -24,8 +23,8 @@ use Rattle.sync.proofs.look_ahead.Statement.{statement}
 use Rattle.sync.proofs.look_ahead.Tie as tie
 
 -- the tags fit, so the search is the path's
-fitting : (c : tie.Start) → allocating hitLimit (c .args .tags .now) (c .args .st .n) (c .args .c .hash) ≡ allocateAnswer hitLimit (c .args .tags .now) (c .args .st .n) (c .args .c .hash)
-fitting c = sym (ap (λ (t : Bool). cond t (allocating hitLimit (c .args .tags .now) (c .args .st .n) (c .args .c .hash)) (refused 1)) (c .pre))
+fitting : (c : tie.Start) → allocating (c .args .st .limit) (c .args .tags .now) (c .args .st .n) (c .args .c .hash) ≡ allocateAnswer (c .args .st .limit) (c .args .tags .now) (c .args .st .n) (c .args .c .hash)
+fitting c = sym (ap (λ (t : Bool). cond t (allocating (c .args .st .limit) (c .args .tags .now) (c .args .st .n) (c .args .c .hash)) (refused 1)) (c .pre))
 
 plan-requires : tie.Need-plan-requires
 plan-requires c κs = search needs
@@ -75,9 +74,6 @@ add-has-room-2 c = omega (arith, slots-few (c .before .before .before .before .b
 has-room-requires-3 : tie.Need-has-room-requires-3
 has-room-requires-3 c κs = search needs
 
-hit-limit-requires : tie.Need-hit-limit-requires
-hit-limit-requires c κs = search needs
-
 find-bucket-requires : tie.Need-find-bucket-requires
 find-bucket-requires c κs = search needs
 
@@ -97,13 +93,13 @@ returns-5 : tie.Need-returns-5
 returns-5 c = let room = c .before in let told = room .before .before in let planned-at = told .before .before .before in let start = planned-at .before .before .before .before .before in let args = start .args in let st = args .st in let ch = args .c in let tags = args .tags .now in let cells = args .cells .now in let log = args .log .now in let m = memOf tags [] cells log in let b = told .before .planned3 .given .0 .0 in let d = sym (planned-at .plan .ensures) ∙ ap plannedSaid (told .before .planned3 .given .1) in let full : roomIn (length log) (st .writer) (updateSize (countOf (ch .diff .words))) ≡ false = sym (room .has-room2 .ensures ∙ ap (λ (k : ℕ). roomIn (length log) (st .writer) (65 + 32 * k)) (room .before .count .ensures)) ∙ c .if2 .left in (sym (ap (afterDoes st m ch) d ∙ ap (λ (t : Bool). cond t (given (updated b)) (refused 13)) full), tt)
 
 returns-6 : tie.Need-returns-6
-returns-6 c = let found = c .before .before .before in let room = found .before .before .before in let planned-at = room .before .before .before .before in let start = planned-at .before .before .before .before .before in let args = start .args in let st = args .st in let ch = args .c in let tags = args .tags .now in let cells = args .cells .now in let log = args .log .now in let m = memOf tags [] cells log in let b = c .before .found .given .0 .0 in let d = sym (planned-at .plan .ensures) ∙ ap plannedSaid (room .before .before .enum-told .given .1) in let fits : roomIn (length log) (st .writer) (updateSize (countOf (ch .diff .words))) ≡ true = sym (room .has-room3 .ensures ∙ ap (λ (k : ℕ). roomIn (length log) (st .writer) (65 + 32 * k)) (room .before .count2 .ensures)) ∙ found .before .before .if3 .taken in let a : allocateAnswer hitLimit tags (st .n) (ch .hash) ≡ given b = sym (found .find-bucket .ensures ∙ ap (λ (l : Limit). allocateAnswer l tags (st .n) (ch .hash)) (found .before .hit-limit .ensures)) ∙ ap allocatedSaid (c .before .found .given .1) in (sym (ap (afterDoes st m ch) d ∙ ap (λ (t : Bool). cond t (byBucket (allocating hitLimit tags (st .n) (ch .hash))) (refused 13)) fits ∙ ap byBucket (fitting start ∙ a)), (answer-below hitLimit tags (st .n) (ch .hash) b a .0, fits, does-allocates (st .n) tags cells ch d))
+returns-6 c = let found = c .before .before .before in let room = found .before .before in let planned-at = room .before .before .before .before in let start = planned-at .before .before .before .before .before in let args = start .args in let st = args .st in let ch = args .c in let tags = args .tags .now in let cells = args .cells .now in let log = args .log .now in let m = memOf tags [] cells log in let b = c .before .found .given .0 .0 in let d = sym (planned-at .plan .ensures) ∙ ap plannedSaid (room .before .before .enum-told .given .1) in let fits : roomIn (length log) (st .writer) (updateSize (countOf (ch .diff .words))) ≡ true = sym (room .has-room3 .ensures ∙ ap (λ (k : ℕ). roomIn (length log) (st .writer) (65 + 32 * k)) (room .before .count2 .ensures)) ∙ found .before .if3 .taken in let a : allocateAnswer (st .limit) tags (st .n) (ch .hash) ≡ given b = sym (found .find-bucket .ensures) ∙ ap allocatedSaid (c .before .found .given .1) in (sym (ap (afterDoes st m ch) d ∙ ap (λ (t : Bool). cond t (byBucket (allocating (st .limit) tags (st .n) (ch .hash))) (refused 13)) fits ∙ ap byBucket (fitting start ∙ a)), (answer-below (st .limit) tags (st .n) (ch .hash) b a .0, fits, does-allocates (st .n) tags cells ch d))
 
 returns-7 : tie.Need-returns-7
-returns-7 c = let found = c .before .before .before in let room = found .before .before .before in let planned-at = room .before .before .before .before in let start = planned-at .before .before .before .before .before in let args = start .args in let st = args .st in let ch = args .c in let tags = args .tags .now in let cells = args .cells .now in let log = args .log .now in let m = memOf tags [] cells log in let k = numberOf (c .before .found2 .given .0 .0) in let d = sym (planned-at .plan .ensures) ∙ ap plannedSaid (room .before .before .enum-told .given .1) in let fits : roomIn (length log) (st .writer) (updateSize (countOf (ch .diff .words))) ≡ true = sym (room .has-room3 .ensures ∙ ap (λ (x : ℕ). roomIn (length log) (st .writer) (65 + 32 * x)) (room .before .count2 .ensures)) ∙ found .before .before .if3 .taken in let a : allocateAnswer hitLimit tags (st .n) (ch .hash) ≡ refused k = sym (found .find-bucket .ensures ∙ ap (λ (l : Limit). allocateAnswer l tags (st .n) (ch .hash)) (found .before .hit-limit .ensures)) ∙ ap allocatedSaid (c .before .found2 .given .1) in (sym (ap (afterDoes st m ch) d ∙ ap (λ (t : Bool). cond t (byBucket (allocating hitLimit tags (st .n) (ch .hash))) (refused 13)) fits ∙ ap byBucket (fitting start ∙ a)), tt)
+returns-7 c = let found = c .before .before .before in let room = found .before .before in let planned-at = room .before .before .before .before in let start = planned-at .before .before .before .before .before in let args = start .args in let st = args .st in let ch = args .c in let tags = args .tags .now in let cells = args .cells .now in let log = args .log .now in let m = memOf tags [] cells log in let k = numberOf (c .before .found2 .given .0 .0) in let d = sym (planned-at .plan .ensures) ∙ ap plannedSaid (room .before .before .enum-told .given .1) in let fits : roomIn (length log) (st .writer) (updateSize (countOf (ch .diff .words))) ≡ true = sym (room .has-room3 .ensures ∙ ap (λ (x : ℕ). roomIn (length log) (st .writer) (65 + 32 * x)) (room .before .count2 .ensures)) ∙ found .before .if3 .taken in let a : allocateAnswer (st .limit) tags (st .n) (ch .hash) ≡ refused k = sym (found .find-bucket .ensures) ∙ ap allocatedSaid (c .before .found2 .given .1) in (sym (ap (afterDoes st m ch) d ∙ ap (λ (t : Bool). cond t (byBucket (allocating (st .limit) tags (st .n) (ch .hash))) (refused 13)) fits ∙ ap byBucket (fitting start ∙ a)), tt)
 
 returns-8 : tie.Need-returns-8
-returns-8 c = let room = c .before in let planned-at = room .before .before .before .before in let start = planned-at .before .before .before .before .before in let args = start .args in let st = args .st in let ch = args .c in let tags = args .tags .now in let cells = args .cells .now in let log = args .log .now in let m = memOf tags [] cells log in let d = sym (planned-at .plan .ensures) ∙ ap plannedSaid (room .before .before .enum-told .given .1) in let full : roomIn (length log) (st .writer) (updateSize (countOf (ch .diff .words))) ≡ false = sym (room .has-room3 .ensures ∙ ap (λ (k : ℕ). roomIn (length log) (st .writer) (65 + 32 * k)) (room .before .count2 .ensures)) ∙ c .if3 .left in (sym (ap (afterDoes st m ch) d ∙ ap (λ (t : Bool). cond t (byBucket (allocating hitLimit tags (st .n) (ch .hash))) (refused 13)) full), tt)
+returns-8 c = let room = c .before in let planned-at = room .before .before .before .before in let start = planned-at .before .before .before .before .before in let args = start .args in let st = args .st in let ch = args .c in let tags = args .tags .now in let cells = args .cells .now in let log = args .log .now in let m = memOf tags [] cells log in let d = sym (planned-at .plan .ensures) ∙ ap plannedSaid (room .before .before .enum-told .given .1) in let full : roomIn (length log) (st .writer) (updateSize (countOf (ch .diff .words))) ≡ false = sym (room .has-room3 .ensures ∙ ap (λ (k : ℕ). roomIn (length log) (st .writer) (65 + 32 * k)) (room .before .count2 .ensures)) ∙ c .if3 .left in (sym (ap (afterDoes st m ch) d ∙ ap (λ (t : Bool). cond t (byBucket (allocating (st .limit) tags (st .n) (ch .hash))) (refused 13)) full), tt)
 
 pub look-ahead-spec : {M : Type 1} → statement M
 look-ahead-spec =
@@ -125,7 +121,6 @@ look-ahead-spec =
     mul-has-room-2
     add-has-room-2
     has-room-requires-3
-    hit-limit-requires
     find-bucket-requires
     enum-known-found
     enum-known-found-2

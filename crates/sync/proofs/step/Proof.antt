@@ -5,9 +5,10 @@ use mathlib.Core.List.{List, []}
 use Prim.Native.Nat.{ℕ, _+_, _-_, _/_, _≤_, _<_}
 use native.Mathlib.Omega.{arith}
 use lib.ListN.{length, set}
+use Rattle.answers.specs.Answers.{outcomeSaid}
 use Rattle.answers.specs.Refusals.{numberOf}
 use Rattle.ht_file.specs.Places.{tagsFit, tagPages}
-use Rattle.ht_file.proofs.Laws.{tags-fit-facts}
+use Rattle.ht_file.proofs.Laws.{tags-fit-facts, table-fits}
 use Rattle.wal.specs.declared.Writer.{Writer}
 use Rattle.sync.specs.Change.{Wide, memOf, effectOf, cleared, updated, allocated, stateOf}
 use Rattle.sync.specs.InnerChange.{outlookSaid, outlookFits}
@@ -22,7 +23,8 @@ use Rattle.sync.proofs.step.Statement.{statement}
 use Rattle.sync.proofs.step.Tie as tie
 use Rattle.sync.proofs.step.Reads as reads
 use Rattle.sync.proofs.step.Lts as lts
-use Rattle.ht_file.proofs.tags_fit.Reads as tags-fit-reads
+use Rattle.ht_file.proofs.check_tags.Reads as check-tags-reads
+use Rattle.ht_file.proofs.tag_pages.Reads as tag-pages-reads
 use Rattle.meta_map.proofs.full_entry.Reads as full-entry-reads
 use Rattle.sync.proofs.look_ahead.Reads as look-ahead-reads
 use Rattle.sync.proofs.one_less.Reads as one-less-reads
@@ -61,247 +63,266 @@ module _ (c : tie.Start) where
   wide = typed-wide ch _ (c .good .1 .1 .1 .1 .1 .0)
 
 -- the tags fit
-module _ (c : tie.Then1) where
+module _ (c : tie.After-enum-told) where
   abbrev start : tie.Start
-  start = c .before .before .before .before .before .before .before
+  start = c .before .before .before .before .before .before .before .before
 
   fits : tagsFit (st start .n) (length (tags start)) ≡ true
-  fits = sym (c .before .tags-fit .ensures) ∙ c .if1 .taken
+  fits = table-fits (tagsFit (st start .n) (length (tags start))) (sym (c .before .before .check-tags .ensures) ∙ ap outcomeSaid (c .enum-told .given .1))
+
+-- a page, and a mark for each tag page
+module _ (c : tie.Else2) where
+  abbrev first : tie.After-enum-told
+  first = c .before .before .before
+
+  paged : length (page (start first)) ≡ 4096
+  paged = c .before .before .if1 .left
+
+  marked : length (marks (start first)) ≡ tagPages (st (start first) .n)
+  marked = c .if2 .left ∙ c .before .tag-pages .ensures
 
 -- what look_ahead saw is what the change comes to
 module _ (c : tie.After-look-ahead) where
-  abbrev told : tie.Else3
+  abbrev told : tie.Else2
   told = c .before .before .before .before .before .before
 
-  abbrev first : tie.Then1
-  first = told .before .before
-
   abbrev at : tie.Start
-  at = start first
+  at = start (first told)
 
   opened : Opened (st at .writer)
-  opened = c .before .before .before .before .before .match .keys1
+  opened = c .before .before .before .before .before .match2 .keys1
 
   within : (b : ℕ) → b < st at .n → (b < length (tags at)) × (b / 4096 < length (marks at))
   within b h =
-      let f = tags-fit-facts (st at .n) (length (tags at)) (fits first) in
-      let k : length (marks at) ≡ tagPages (st at .n) = told .if3 .left in
+      let f = tags-fit-facts (st at .n) (length (tags at)) (fits (first told)) in
+      let k : length (marks at) ≡ tagPages (st at .n) = marked told in
       (omega arith, omega arith)
 
   most : st at .n ≤ 1048576
-  most = tags-fit-facts (st at .n) (length (tags at)) (fits first) .1
+  most = tags-fit-facts (st at .n) (length (tags at)) (fits (first told)) .1
 
   module _ (o : Outlook) (e : c .look-ahead .result ≡ o) where
     seen : effectOf (st at) (memOf (tags at) (marks at) (cells at) (log at)) (page at) (ch at) ≡ outlookSaid o
     seen =
-        step-ahead (st at) (tags at) (marks at) (cells at) (log at) (page at) (ch at) (fits first) (told .before .if2 .left) (told .if3 .left) opened o (sym (ap outlookSaid e) ∙ c .look-ahead .ensures .0)
+        step-ahead (st at) (tags at) (marks at) (cells at) (log at) (page at) (ch at) (fits (first told)) (paged told) (marked told) opened o (sym (ap outlookSaid e) ∙ c .look-ahead .ensures .0)
 
     rests : outlookFits o (st at) (log at) (ch at)
     rests = subst (λ (x : Outlook). outlookFits x (st at) (log at) (ch at)) e (c .look-ahead .ensures .1)
 
--- src/lib.rt:298:8
-tags-fit-requires : tie.Need-tags-fit-requires
-tags-fit-requires c κs = search needs
+-- src/lib.rt:368:9
+check-tags-requires : tie.Need-check-tags-requires
+check-tags-requires c κs = search needs
 
--- src/lib.rt:300:13
+-- src/lib.rt:369:29
+enum-known-fit : tie.Need-enum-known-fit
+enum-known-fit c = search needs
+
+-- src/lib.rt:370:9
 refused-step-requires : tie.Need-refused-step-requires
 refused-step-requires c κs = search needs
 
--- src/lib.rt:300:13
+-- src/lib.rt:370:9
 returns : tie.Need-returns
-returns c = let t = c .before .before in let o = start t in refused-left (st o) (tags o) (marks o) (cells o) (log o) (page o) (ch o) 2 (c .refused-step .result) (step-page (st o) (tags o) (marks o) (cells o) (log o) (page o) (ch o) (fits t) (c .before .if2 .taken)) (c .refused-step .ensures .0) (c .refused-step .ensures .1) (wide o)
-
--- src/lib.rt:302:28
-add-if3 : tie.Need-add-if3
-add-if3 c = let f = tags-fit-facts (st (start (c .before)) .n) (length (tags (start (c .before)))) (fits (c .before)) in omega arith
-
--- src/lib.rt:303:13
-refused-step-requires-2 : tie.Need-refused-step-requires-2
-refused-step-requires-2 c κs = search needs
-
--- src/lib.rt:303:13
-returns-2 : tie.Need-returns-2
-returns-2 c = let e = c .before .before in let t = e .before in let o = start t in refused-left (st o) (tags o) (marks o) (cells o) (log o) (page o) (ch o) 2 (c .refused-step2 .result) (step-marks (st o) (tags o) (marks o) (cells o) (log o) (page o) (ch o) (fits t) (e .if2 .left) (c .before .if3 .taken)) (c .refused-step2 .ensures .0) (c .refused-step2 .ensures .1) (wide o)
+returns c = let o = c .before .before .before .before .before .before .before .before .before .before in let x = c .before .before .fit .given in refused-left (st o) (tags o) (marks o) (cells o) (log o) (page o) (ch o) (numberOf (x .0 .0)) (c .refused-step .result) (step-unfit (st o) (tags o) (marks o) (cells o) (log o) (page o) (ch o) (numberOf (x .0 .0)) (sym (c .before .before .before .before .check-tags .ensures) ∙ ap outcomeSaid (x .1))) (c .refused-step .ensures .0) (c .refused-step .ensures .1) (wide o)
 
 enum-told : tie.Need-enum-told
 enum-told c = search needs
 
--- src/lib.rt:306:13
+-- src/lib.rt:373:9
+refused-step-requires-2 : tie.Need-refused-step-requires-2
+refused-step-requires-2 c κs = search needs
+
+-- src/lib.rt:373:9
+returns-2 : tie.Need-returns-2
+returns-2 c = let t = c .before .before in let o = start t in refused-left (st o) (tags o) (marks o) (cells o) (log o) (page o) (ch o) 2 (c .refused-step2 .result) (step-page (st o) (tags o) (marks o) (cells o) (log o) (page o) (ch o) (fits t) (c .before .if1 .taken)) (c .refused-step2 .ensures .0) (c .refused-step2 .ensures .1) (wide o)
+
+-- src/lib.rt:375:23
+tag-pages-requires : tie.Need-tag-pages-requires
+tag-pages-requires c κs = search needs
+
+-- src/lib.rt:376:9
 refused-step-requires-3 : tie.Need-refused-step-requires-3
 refused-step-requires-3 c κs = search needs
 
--- src/lib.rt:306:13
+-- src/lib.rt:376:9
 returns-3 : tie.Need-returns-3
-returns-3 c = let e = c .before .before in let t = e .before .before in let o = start t in refused-left (st o) (tags o) (marks o) (cells o) (log o) (page o) (ch o) 12 (c .refused-step3 .result) (step-closed (st o) (tags o) (marks o) (cells o) (log o) (page o) (ch o) (fits t) (e .before .if2 .left) (e .if3 .left) (c .before .match .keys2)) (c .refused-step3 .ensures .0) (c .refused-step3 .ensures .1) (wide o)
+returns-3 c = let e = c .before .before .before in let t = e .before in let o = start t in refused-left (st o) (tags o) (marks o) (cells o) (log o) (page o) (ch o) 2 (c .refused-step3 .result) (step-marks (st o) (tags o) (marks o) (cells o) (log o) (page o) (ch o) (fits t) (e .if1 .left) (λ q. c .before .if2 .taken (q ∙ sym (c .before .before .tag-pages .ensures)))) (c .refused-step3 .ensures .0) (c .refused-step3 .ensures .1) (wide o)
 
--- src/lib.rt:308:13
-look-ahead-requires : tie.Need-look-ahead-requires
-look-ahead-requires c κs = fits (c .before .before .before .before .before .before .before)
+enum-told-2 : tie.Need-enum-told-2
+enum-told-2 c = search needs
 
--- src/lib.rt:313:30
-enum-known-ahead : tie.Need-enum-known-ahead
-enum-known-ahead c = search needs
-
--- src/lib.rt:313:38
+-- src/lib.rt:379:9
 refused-step-requires-4 : tie.Need-refused-step-requires-4
 refused-step-requires-4 c κs = search needs
 
--- src/lib.rt:314:29
-enum-known-ahead-2 : tie.Need-enum-known-ahead-2
-enum-known-ahead-2 c = search needs
+-- src/lib.rt:379:9
+returns-4 : tie.Need-returns-4
+returns-4 c = let e = c .before .before in let t = first e in let o = start t in refused-left (st o) (tags o) (marks o) (cells o) (log o) (page o) (ch o) 12 (c .refused-step4 .result) (step-closed (st o) (tags o) (marks o) (cells o) (log o) (page o) (ch o) (fits t) (paged e) (marked e) (c .before .match2 .keys2)) (c .refused-step4 .ensures .0) (c .refused-step4 .ensures .1) (wide o)
 
--- src/lib.rt:315:21
-write-clear-requires : tie.Need-write-clear-requires
-write-clear-requires c κs = search needs
+-- src/lib.rt:381:9
+look-ahead-requires : tie.Need-look-ahead-requires
+look-ahead-requires c κs = fits (c .before .before .before .before .before .before .before .before)
 
--- src/lib.rt:316:17
-write-tag-requires : tie.Need-write-tag-requires
-write-tag-requires c κs = let a = c .before .before .before .before .before .before .before in let l = a .before .before .before .before .before in let o = at l in let b = a .ahead2 .given .0 .0 in let r = rests l (outlook.Clears b) (a .ahead2 .given .1) in within l b (r .0)
+-- src/lib.rt:386:26
+enum-known-ahead : tie.Need-enum-known-ahead
+enum-known-ahead c = search needs
 
--- src/lib.rt:318:41
-one-less-requires : tie.Need-one-less-requires
-one-less-requires c κs = search needs
-
--- src/lib.rt:318:17
-taken-step-requires : tie.Need-taken-step-requires
-taken-step-requires c κs = let a = c .before .before .before .before .before .before .before .before .before .before .before .before .before in let l = a .before .before .before .before .before in let o = at l in let b = a .ahead2 .given .0 .0 in let r = rests l (outlook.Clears b) (a .ahead2 .given .1) in (most l, r .0)
-
--- src/lib.rt:320:30
-enum-known-ahead-3 : tie.Need-enum-known-ahead-3
-enum-known-ahead-3 c = search needs
-
--- src/lib.rt:321:21
-write-page-update-requires : tie.Need-write-page-update-requires
-write-page-update-requires c κs = search needs
-
--- src/lib.rt:323:17
-taken-step-requires-2 : tie.Need-taken-step-requires-2
-taken-step-requires-2 c κs = let a = c .before .before .before .before .before in let l = a .before .before .before .before .before in let o = at l in let b = a .ahead3 .given .0 .0 in let r = rests l (outlook.Updates b) (a .ahead3 .given .1) in (most l, r .0)
-
--- src/lib.rt:325:28
-enum-known-ahead-4 : tie.Need-enum-known-ahead-4
-enum-known-ahead-4 c = search needs
-
--- src/lib.rt:326:21
-write-page-update-requires-2 : tie.Need-write-page-update-requires-2
-write-page-update-requires-2 c κs = search needs
-
--- src/lib.rt:327:52
-full-entry-requires : tie.Need-full-entry-requires
-full-entry-requires c κs = search needs
-
--- src/lib.rt:327:17
-write-tag-requires-2 : tie.Need-write-tag-requires-2
-write-tag-requires-2 c κs = let a = c .before .before .before .before .before .before .before .before in let l = a .before .before .before .before .before in let o = at l in let b = a .ahead4 .given .0 .0 in let r = rests l (outlook.Takes b) (a .ahead4 .given .1) in within l b (r .0)
-
--- src/lib.rt:328:17
-set-cell-requires : tie.Need-set-cell-requires
-set-cell-requires c κs = search needs
-
--- src/lib.rt:330:41
-one-more-requires : tie.Need-one-more-requires
-one-more-requires c κs = search needs
-
--- src/lib.rt:330:17
-taken-step-requires-3 : tie.Need-taken-step-requires-3
-taken-step-requires-3 c κs = let a = c .before .before .before .before .before .before .before .before .before .before .before .before .before .before .before .before .before .before in let l = a .before .before .before .before .before in let o = at l in let b = a .ahead4 .given .0 .0 in let r = rests l (outlook.Takes b) (a .ahead4 .given .1) in (most l, r .0)
-
--- src/lib.rt:334:9
+-- src/lib.rt:386:34
 refused-step-requires-5 : tie.Need-refused-step-requires-5
 refused-step-requires-5 c κs = search needs
 
--- src/lib.rt:285:1
+-- src/lib.rt:387:25
+enum-known-ahead-2 : tie.Need-enum-known-ahead-2
+enum-known-ahead-2 c = search needs
+
+-- src/lib.rt:388:17
+write-clear-requires : tie.Need-write-clear-requires
+write-clear-requires c κs = search needs
+
+-- src/lib.rt:389:13
+write-tag-requires : tie.Need-write-tag-requires
+write-tag-requires c κs = let a = c .before .before .before .before .before .before .before in let l = a .before .before .before .before .before in let o = at l in let b = a .ahead2 .given .0 .0 in let r = rests l (outlook.Clears b) (a .ahead2 .given .1) in within l b (r .0)
+
+-- src/lib.rt:391:38
+one-less-requires : tie.Need-one-less-requires
+one-less-requires c κs = search needs
+
+-- src/lib.rt:391:13
+taken-step-requires : tie.Need-taken-step-requires
+taken-step-requires c κs = let a = c .before .before .before .before .before .before .before .before .before .before .before .before .before in let l = a .before .before .before .before .before in let o = at l in let b = a .ahead2 .given .0 .0 in let r = rests l (outlook.Clears b) (a .ahead2 .given .1) in (most l, r .0)
+
+-- src/lib.rt:393:26
+enum-known-ahead-3 : tie.Need-enum-known-ahead-3
+enum-known-ahead-3 c = search needs
+
+-- src/lib.rt:394:17
+write-page-update-requires : tie.Need-write-page-update-requires
+write-page-update-requires c κs = search needs
+
+-- src/lib.rt:396:13
+taken-step-requires-2 : tie.Need-taken-step-requires-2
+taken-step-requires-2 c κs = let a = c .before .before .before .before .before in let l = a .before .before .before .before .before in let o = at l in let b = a .ahead3 .given .0 .0 in let r = rests l (outlook.Updates b) (a .ahead3 .given .1) in (most l, r .0)
+
+-- src/lib.rt:398:24
+enum-known-ahead-4 : tie.Need-enum-known-ahead-4
+enum-known-ahead-4 c = search needs
+
+-- src/lib.rt:399:17
+write-page-update-requires-2 : tie.Need-write-page-update-requires-2
+write-page-update-requires-2 c κs = search needs
+
+-- src/lib.rt:400:48
+full-entry-requires : tie.Need-full-entry-requires
+full-entry-requires c κs = search needs
+
+-- src/lib.rt:400:13
+write-tag-requires-2 : tie.Need-write-tag-requires-2
+write-tag-requires-2 c κs = let a = c .before .before .before .before .before .before .before .before in let l = a .before .before .before .before .before in let o = at l in let b = a .ahead4 .given .0 .0 in let r = rests l (outlook.Takes b) (a .ahead4 .given .1) in within l b (r .0)
+
+-- src/lib.rt:401:13
+set-cell-requires : tie.Need-set-cell-requires
+set-cell-requires c κs = search needs
+
+-- src/lib.rt:403:38
+one-more-requires : tie.Need-one-more-requires
+one-more-requires c κs = search needs
+
+-- src/lib.rt:403:13
+taken-step-requires-3 : tie.Need-taken-step-requires-3
+taken-step-requires-3 c κs = let a = c .before .before .before .before .before .before .before .before .before .before .before .before .before .before .before .before .before .before in let l = a .before .before .before .before .before in let o = at l in let b = a .ahead4 .given .0 .0 in let r = rests l (outlook.Takes b) (a .ahead4 .given .1) in (most l, r .0)
+
+-- src/lib.rt:355:1
 same-length : tie.Need-same-length
 same-length c = search needs
 
--- src/lib.rt:285:1
+-- src/lib.rt:355:1
 same-length-2 : tie.Need-same-length-2
 same-length-2 c = search needs
 
--- src/lib.rt:285:1
+-- src/lib.rt:355:1
 same-length-3 : tie.Need-same-length-3
 same-length-3 c = search needs
 
--- src/lib.rt:285:1
-returns-4 : tie.Need-returns-4
-returns-4 c = let a = c .before .before in let l = a .before .before .before .before .before in let o = at l in let why = a .ahead .given .0 .0 in refused-left (st o) (tags o) (marks o) (cells o) (log o) (page o) (ch o) (numberOf why) (c .refused-step4 .result) (seen l (outlook.Refused why) (a .ahead .given .1)) (c .refused-step4 .ensures .0) (c .refused-step4 .ensures .1) (wide o)
+-- src/lib.rt:355:1
+returns-5 : tie.Need-returns-5
+returns-5 c = let a = c .before .before in let l = a .before .before .before .before .before in let o = at l in let why = a .ahead .given .0 .0 in refused-left (st o) (tags o) (marks o) (cells o) (log o) (page o) (ch o) (numberOf why) (c .refused-step5 .result) (seen l (outlook.Refused why) (a .ahead .given .1)) (c .refused-step5 .ensures .0) (c .refused-step5 .ensures .1) (wide o)
 
--- src/lib.rt:285:1
+-- src/lib.rt:355:1
 same-length-4 : tie.Need-same-length-4
 same-length-4 c = search needs
 
--- src/lib.rt:285:1
+-- src/lib.rt:355:1
 same-length-5 : tie.Need-same-length-5
 same-length-5 c = search needs
 
--- src/lib.rt:285:1
+-- src/lib.rt:355:1
 same-length-6 : tie.Need-same-length-6
 same-length-6 c = search needs
 
--- src/lib.rt:285:1
+-- src/lib.rt:355:1
 same-length-7 : tie.Need-same-length-7
 same-length-7 c = search needs
 
--- src/lib.rt:285:1
-returns-5 : tie.Need-returns-5
-returns-5 c = let a = c .before .before .before .before .before .before .before .before .before .before .before .before .before .before in let l = a .before .before .before .before .before in let o = at l in let b = a .ahead2 .given .0 .0 in let r = rests l (outlook.Clears b) (a .ahead2 .given .1) in let w = st o .writer in let k = clear-taken w (log o) (opened l) (r .1) in let wr = c .before .before .before .before .before .before .before .before .before .before .before in let tg = c .before .before .before .before .before .before in given-left (st o) (tags o) (marks o) (cells o) (log o) (page o) (ch o) (cleared b) (c .taken-step .result) (tg .write-tag .last .0) (tg .write-tag .last .1 .0) (cells o) (wr .write-clear .last .0) (seen l (outlook.Clears b) (a .ahead2 .given .1)) (c .taken-step .ensures .0) (c .taken-step .ensures .1 ∙ ap₂ (stateOf (st o .n)) (wr .write-clear .ensures .1 .0 ∙ clear-state w (log o) k) (c .before .one-less .ensures)) (tg .write-tag .ensures .0) (tg .write-tag .ensures .1) refl (wr .write-clear .ensures .1 .1 ∙ clear-bytes w (log o) k b) (wide o)
+-- src/lib.rt:355:1
+returns-6 : tie.Need-returns-6
+returns-6 c = let a = c .before .before .before .before .before .before .before .before .before .before .before .before .before .before in let l = a .before .before .before .before .before in let o = at l in let b = a .ahead2 .given .0 .0 in let r = rests l (outlook.Clears b) (a .ahead2 .given .1) in let w = st o .writer in let k = clear-taken w (log o) (opened l) (r .1) in let wr = c .before .before .before .before .before .before .before .before .before .before .before in let tg = c .before .before .before .before .before .before in given-left (st o) (tags o) (marks o) (cells o) (log o) (page o) (ch o) (cleared b) (c .taken-step .result) (tg .write-tag .last .0) (tg .write-tag .last .1 .0) (cells o) (wr .write-clear .last .0) (seen l (outlook.Clears b) (a .ahead2 .given .1)) (c .taken-step .ensures .0) (c .taken-step .ensures .1 ∙ ap₂ (stateOf (st o .n) (st o .limit)) (wr .write-clear .ensures .1 .0 ∙ clear-state w (log o) k) (c .before .one-less .ensures)) (tg .write-tag .ensures .0) (tg .write-tag .ensures .1) refl (wr .write-clear .ensures .1 .1 ∙ clear-bytes w (log o) k b) (wide o)
 
--- src/lib.rt:285:1
+-- src/lib.rt:355:1
 same-length-8 : tie.Need-same-length-8
 same-length-8 c = search needs
 
--- src/lib.rt:285:1
+-- src/lib.rt:355:1
 same-length-9 : tie.Need-same-length-9
 same-length-9 c = search needs
 
--- src/lib.rt:285:1
+-- src/lib.rt:355:1
 same-length-10 : tie.Need-same-length-10
 same-length-10 c = search needs
 
--- src/lib.rt:285:1
-returns-6 : tie.Need-returns-6
-returns-6 c = let a = c .before .before .before .before .before .before in let l = a .before .before .before .before .before in let o = at l in let b = a .ahead3 .given .0 .0 in let r = rests l (outlook.Updates b) (a .ahead3 .given .1) in let w = st o .writer in let ws = ch o .diff .words in let k = page-taken w (log o) ws (page o) (opened l) (told l .before .if2 .left) (r .2) (r .1) in let wr = c .before .before .before in given-left (st o) (tags o) (marks o) (cells o) (log o) (page o) (ch o) (updated b) (c .taken-step2 .result) (tags o) (marks o) (cells o) (wr .write-page-update .last .0) (seen l (outlook.Updates b) (a .ahead3 .given .1)) (c .taken-step2 .ensures .0) (c .taken-step2 .ensures .1 ∙ ap (λ (v : Writer). stateOf (st o .n) v (st o .occupied)) (wr .write-page-update .ensures .1 .0 ∙ page-state w (log o) ws (page o) k)) refl refl refl (wr .write-page-update .ensures .1 .1 ∙ page-bytes w (log o) ws (page o) k (ch o .id) b) (wide o)
+-- src/lib.rt:355:1
+returns-7 : tie.Need-returns-7
+returns-7 c = let a = c .before .before .before .before .before .before in let l = a .before .before .before .before .before in let o = at l in let b = a .ahead3 .given .0 .0 in let r = rests l (outlook.Updates b) (a .ahead3 .given .1) in let w = st o .writer in let ws = ch o .diff .words in let k = page-taken w (log o) ws (page o) (opened l) (paged (told l)) (r .2) (r .1) in let wr = c .before .before .before in given-left (st o) (tags o) (marks o) (cells o) (log o) (page o) (ch o) (updated b) (c .taken-step2 .result) (tags o) (marks o) (cells o) (wr .write-page-update .last .0) (seen l (outlook.Updates b) (a .ahead3 .given .1)) (c .taken-step2 .ensures .0) (c .taken-step2 .ensures .1 ∙ ap (λ (v : Writer). stateOf (st o .n) (st o .limit) v (st o .occupied)) (wr .write-page-update .ensures .1 .0 ∙ page-state w (log o) ws (page o) k)) refl refl refl (wr .write-page-update .ensures .1 .1 ∙ page-bytes w (log o) ws (page o) k (ch o .id) b) (wide o)
 
--- src/lib.rt:285:1
+-- src/lib.rt:355:1
 same-length-11 : tie.Need-same-length-11
 same-length-11 c = search needs
 
--- src/lib.rt:285:1
+-- src/lib.rt:355:1
 same-length-12 : tie.Need-same-length-12
 same-length-12 c = search needs
 
--- src/lib.rt:285:1
+-- src/lib.rt:355:1
 same-length-13 : tie.Need-same-length-13
 same-length-13 c = search needs
 
--- src/lib.rt:285:1
+-- src/lib.rt:355:1
 same-length-14 : tie.Need-same-length-14
 same-length-14 c = search needs
 
--- src/lib.rt:285:1
-returns-7 : tie.Need-returns-7
-returns-7 c = let a = c .before .before .before .before .before .before .before .before .before .before .before .before .before .before .before .before .before .before .before in let l = a .before .before .before .before .before in let o = at l in let b = a .ahead4 .given .0 .0 in let r = rests l (outlook.Takes b) (a .ahead4 .given .1) in let w = st o .writer in let ws = ch o .diff .words in let k = page-taken w (log o) ws (page o) (opened l) (told l .before .if2 .left) (r .2) (r .1) in let wr = c .before .before .before .before .before .before .before .before .before .before .before .before .before .before .before .before in let tg = c .before .before .before .before .before .before .before .before .before .before in let cl = c .before .before .before .before in given-left (st o) (tags o) (marks o) (cells o) (log o) (page o) (ch o) (allocated b) (c .taken-step3 .result) (tg .write-tag2 .last .0) (tg .write-tag2 .last .1 .0) (cl .set-cell .last .0) (wr .write-page-update2 .last .0) (seen l (outlook.Takes b) (a .ahead4 .given .1)) (c .taken-step3 .ensures .0) (c .taken-step3 .ensures .1 ∙ ap₂ (stateOf (st o .n)) (wr .write-page-update2 .ensures .1 .0 ∙ page-state w (log o) ws (page o) k) (c .before .one-more .ensures)) (tg .write-tag2 .ensures .0 ∙ ap (set (tags o) b) (tg .before .full-entry .ensures)) (tg .write-tag2 .ensures .1) (cl .set-cell .ensures) (wr .write-page-update2 .ensures .1 .1 ∙ page-bytes w (log o) ws (page o) k (ch o .id) b) (wide o)
-
--- src/lib.rt:285:1
+-- src/lib.rt:355:1
 returns-8 : tie.Need-returns-8
-returns-8 c = let t = c .before .before in let o = t .before .before .before .before .before .before in refused-left (st o) (tags o) (marks o) (cells o) (log o) (page o) (ch o) 1 (c .refused-step5 .result) (step-unfit (st o) (tags o) (marks o) (cells o) (log o) (page o) (ch o) (sym (t .tags-fit .ensures) ∙ c .before .if1 .left)) (c .refused-step5 .ensures .0) (c .refused-step5 .ensures .1) (wide o)
+returns-8 c = let a = c .before .before .before .before .before .before .before .before .before .before .before .before .before .before .before .before .before .before .before in let l = a .before .before .before .before .before in let o = at l in let b = a .ahead4 .given .0 .0 in let r = rests l (outlook.Takes b) (a .ahead4 .given .1) in let w = st o .writer in let ws = ch o .diff .words in let k = page-taken w (log o) ws (page o) (opened l) (paged (told l)) (r .2) (r .1) in let wr = c .before .before .before .before .before .before .before .before .before .before .before .before .before .before .before .before in let tg = c .before .before .before .before .before .before .before .before .before .before in let cl = c .before .before .before .before in given-left (st o) (tags o) (marks o) (cells o) (log o) (page o) (ch o) (allocated b) (c .taken-step3 .result) (tg .write-tag2 .last .0) (tg .write-tag2 .last .1 .0) (cl .set-cell .last .0) (wr .write-page-update2 .last .0) (seen l (outlook.Takes b) (a .ahead4 .given .1)) (c .taken-step3 .ensures .0) (c .taken-step3 .ensures .1 ∙ ap₂ (stateOf (st o .n) (st o .limit)) (wr .write-page-update2 .ensures .1 .0 ∙ page-state w (log o) ws (page o) k) (c .before .one-more .ensures)) (tg .write-tag2 .ensures .0 ∙ ap (set (tags o) b) (tg .before .full-entry .ensures)) (tg .write-tag2 .ensures .1) (cl .set-cell .ensures) (wr .write-page-update2 .ensures .1 .1 ∙ page-bytes w (log o) ws (page o) k (ch o .id) b) (wide o)
 
 pub step-spec : {M : Type 1} → statement M
 step-spec =
     tie.close
     (tie.spec
-    tags-fit-requires
+    check-tags-requires
+    enum-known-fit
     refused-step-requires
     returns
-    add-if3
+    enum-told
     refused-step-requires-2
     returns-2
-    enum-told
+    tag-pages-requires
     refused-step-requires-3
     returns-3
+    enum-told-2
+    refused-step-requires-4
+    returns-4
     look-ahead-requires
     enum-known-ahead
-    refused-step-requires-4
+    refused-step-requires-5
     enum-known-ahead-2
     write-clear-requires
     write-tag-requires
@@ -317,23 +338,21 @@ step-spec =
     set-cell-requires
     one-more-requires
     taken-step-requires-3
-    refused-step-requires-5
     same-length
     same-length-2
     same-length-3
-    returns-4
+    returns-5
     same-length-4
     same-length-5
     same-length-6
     same-length-7
-    returns-5
+    returns-6
     same-length-8
     same-length-9
     same-length-10
-    returns-6
+    returns-7
     same-length-11
     same-length-12
     same-length-13
     same-length-14
-    returns-7
     returns-8)

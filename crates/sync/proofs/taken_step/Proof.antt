@@ -1,0 +1,25 @@
+-- The page's number is told on; the rest is as it was given. Assumes nothing.
+use mathlib.Core.Path.{_≡_, refl, ap}
+use Prim.Native.Nat.{ℕ, _+_}
+use Rattle.answers.specs.Answers.{given}
+use borrow.Author.Needs.{needs}
+use Rattle.sync.proofs.taken_step.Statement.{statement}
+use Rattle.sync.proofs.taken_step.Tie as tie
+use Rattle.sync.proofs.taken_step.Reads as reads
+use Rattle.sync.proofs.taken_step.Lts as lts
+use Rattle.ht_file.proofs.tag_pages.Reads as tag-pages-reads
+
+-- src/lib.rt:301:19
+tag-pages-requires : tie.Need-tag-pages-requires
+tag-pages-requires c κs = search needs
+
+-- src/lib.rt:301:19
+add-t9 : tie.Need-add-t9
+add-t9 c = search needs
+
+-- src/lib.rt:292:1
+returns : tie.Need-returns
+returns c = let b = c .before .args .b in (ap (λ (x : ℕ). given (b, x + b)) (c .tag-pages .ensures), refl)
+
+pub taken-step-spec : {M : Type 1} → statement M
+taken-step-spec = tie.close (tie.spec tag-pages-requires add-t9 returns)
