@@ -1,5 +1,5 @@
 -- What an accepted change passed: every test of its definition. Assumes nothing.
-use mathlib.Core.Path.{_≡_, refl, sym, ap, _∙_}
+use mathlib.Core.Path.{_≡_, refl, sym, ap}
 use mathlib.Core.Bool.{Bool, true, false, cond, _&&_}
 use mathlib.Core.List.{List}
 use Prim.Native.Nat.{ℕ, _+_}
@@ -17,7 +17,7 @@ use Rattle.wal.specs.Log.{markSize, clearSize, updateSize}
 use Rattle.wal.specs.Writer.{position, capacity, ifOpen}
 use Rattle.wal.specs.declared.Writer.{Writer}
 use Rattle.wal.specs.declared.Writer.the-variants.{Fresh, Open, Finished}
-use Rattle.sync.specs.Change.{Mem, memOf, Does, clears, updates, allocates, doesOf, Effect, cleared, updated, allocated, byBucket, afterDoes, effectOf}
+use Rattle.sync.specs.Change.{Mem, Does, clears, updates, allocates, doesOf, Effect, cleared, updated, allocated, byBucket, afterDoes, effectOf}
 use Rattle.sync.specs.declared.Change.{Change}
 use Rattle.sync.specs.declared.SyncState.{SyncState}
 

@@ -12,7 +12,7 @@ use Rattle.meta_map.specs.Tags.{countOf}
 use Rattle.page_diff.specs.Diff.{marked, slotsBelow}
 use Rattle.probe.specs.Path.{allocating, hitLimit}
 use Rattle.wal.specs.Log.{Entry, clear, update, recordOf, recordsOf}
-use Rattle.wal.specs.Reader.{startOf, next, nextAt, readIn, readBy}
+use Rattle.wal.specs.Reader.{startOf, next, nextAt, readBy}
 use Rattle.wal.specs.Run.{logOf}
 use Rattle.wal.specs.Writer.{beginAnswer, finishAnswer}
 use Rattle.wal.specs.declared.Writer.the-variants.{Fresh, Open, Finished}
@@ -20,7 +20,7 @@ use Rattle.recover.specs.Places.{withHashes}
 use Rattle.recover.specs.Replay.{applied, allInside, updatesIn, checkAnswer, replayTests, replayAnswer, replayImage, stepsOf, stepImage}
 use Rattle.sync.proofs.Labels.{Labelled, elsewhere, step-labelled, replay-labelled}
 use Rattle.sync.specs.Change.{Mem, memOf, whereOf, placeOf, cleared, effectOf, memBy, stateOf, stateBy, pageNumber, takenSaid}
-use Rattle.sync.specs.Sync.{changeAt, changeMem, allOf, memAll, through, refusedAt, runSaid, on, unbegun, stopped, beforeChanges, saidDone, saidRefused, saidRefusedAt, syncSays, syncMem, syncWriter, syncedSaid}
+use Rattle.sync.specs.Sync.{changeAt, changeMem, allOf, memAll, runSaid, on, unbegun, stopped, beforeChanges, saidDone, saidRefused, saidRefusedAt, syncSays, syncMem, syncWriter, syncedSaid}
 use Rattle.sync.specs.declared.Change.{Change}
 use Rattle.sync.specs.declared.Where.{Where}
 use Rattle.sync.specs.declared.Where.the-variants.{Known, Fresh as FreshPage, Cell}

@@ -5,7 +5,7 @@ use mathlib.Core.List.{List, [], _∷_, _++_, append-nil, append-assoc}
 use Prim.Native.Nat.{ℕ, _+_, _*_, _<_, _^_}
 use native.Mathlib.Omega.{arith}
 use lib.Dec.{eqb}
-use lib.ListN.{length, getD, take}
+use lib.ListN.{length, take}
 use denote.Enum.Declared.{tagOf}
 use borrow.Author.Tests.{eqb-true}
 use Rattle.answers.specs.Answers.{Answer, given, refused, accepted}
@@ -17,17 +17,17 @@ use Rattle.ht_file.proofs.Laws.{tags-fit-facts}
 use Rattle.page_diff.specs.Diff.{reserved, countOf}
 use Rattle.probe.specs.Path.{allocating, allocateAnswer}
 use Rattle.probe.proofs.Allocating.{answer-below}
-use Rattle.wal.specs.Log.{Entry, startSize, recordsOf, clearSize, updateSize, finishedLength}
-use Rattle.wal.specs.Reader.{Reading, startOf, readLog}
+use Rattle.wal.specs.Log.{Entry, startSize, recordsOf, updateSize, finishedLength}
+use Rattle.wal.specs.Reader.{startOf, readLog}
 use Rattle.wal.specs.Run.{Wide as WideUpdate, Run, begun, with-clear}
-use Rattle.wal.specs.Writer.{beginAnswer, beginLog, beginWriter, finishAnswer, finishLog}
+use Rattle.wal.specs.Writer.{beginAnswer, beginLog, finishAnswer, finishLog}
 use Rattle.wal.specs.declared.Writer.{Writer}
 use Rattle.wal.specs.declared.Writer.the-variants.{Fresh}
 use Rattle.wal.proofs.Writer as WriterT
 use Rattle.wal.proofs.RoundTrip.{run-made, finish-fits, round-trip-start, round-trip}
 use Rattle.wal_write.specs.Calls.{roomIn, clearWriter, pageUpdate, pageUpdateWriter}
 use Rattle.wal_write.proofs.PageUpdates.{run-page}
-use Rattle.sync.specs.Change.{Wide, AllWide, none-wide, more-wide, Mem, memOf, doesOf, Effect, cleared, updated, allocated, bucketOf, effectOf, entryBy, memBy, stateBy}
+use Rattle.sync.specs.Change.{Wide, AllWide, none-wide, more-wide, Mem, memOf, doesOf, Effect, cleared, updated, allocated, effectOf, entryBy, memBy, stateBy}
 use Rattle.sync.specs.Sync.{pageOf, Came, through, refusedAt, orRest, orMem, changeAt, changeMem, allOf, memAll, entriesBy, entriesOf, beforeChanges, startMem, startState, saidDone, saidFinish, saidBy, saidIf, keptIf, logAfter, came, left, syncSays, syncMem}
 use Rattle.sync.specs.declared.Change.{Change}
 use Rattle.sync.specs.declared.SyncState.{SyncState}

@@ -1,19 +1,16 @@
 -- "Occupied starts as the number of full tags", and is that number after every change. Assumes nothing.
 use mathlib.Core.Path.{_≡_, refl, sym, ap, _∙_}
-use mathlib.Core.Bool.{Bool, true, false, cond, _&&_, _||_}
+use mathlib.Core.Bool.{Bool, true, false, cond, _||_}
 use mathlib.Core.List.{List, [], _∷_}
-use Prim.Native.Nat.{ℕ, _+_, _-_, _^_, _≤_, _<_, min}
+use Prim.Native.Nat.{ℕ, _+_, _<_}
 use native.Mathlib.Omega.{arith}
-use lib.Dec.{ltb, leb, eqb}
-use lib.ListN.{length, getD, set}
+use lib.ListN.{length, getD}
 use Rattle.answers.specs.Answers.{Answer, given, refused}
-use Rattle.answers.proofs.Laws.{given-refused}
-use Rattle.ht_file.specs.Places.{tagsFit, tagPages}
 use Rattle.ht_file.proofs.Laws.{tags-fit-facts}
 use Rattle.meta_map.specs.Tags.{Kind, empty, tombstone, full, other, isKind, kindOf, fullTag, countOf, one}
 use Rattle.meta_map.proofs.Laws.{full-tag-kind, count-set, count-le}
-use Rattle.probe.specs.Path.{isFree, allocating, allocateAnswer}
-use Rattle.probe.proofs.Promises.{AllocatedAt, allocated-bucket}
+use Rattle.probe.specs.Path.{allocating}
+use Rattle.probe.proofs.Promises.{allocated-bucket}
 use Rattle.wal.specs.Writer.{finishAnswer}
 use Rattle.sync.specs.Change.{Mem, memOf, doesOf, Effect, cleared, updated, allocated, effectOf, tagsIf, memBy, stateBy}
 use Rattle.sync.specs.Sync.{pageOf, Came, through, refusedAt, orRest, orMem, changeAt, changeMem, allOf, memAll, beforeChanges, startMem, startState, saidDone, saidFinish, saidBy, saidIf, keptIf, logAfter, came, left, syncSays, syncMem}

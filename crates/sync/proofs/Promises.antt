@@ -13,8 +13,7 @@ use Rattle.ht_file.specs.Places.{imageFits}
 use Rattle.meta_map.specs.Tags.{full, countOf}
 use Rattle.page_diff.specs.Diff.{marked}
 use Rattle.wal.specs.Log.{Entry, startSize, recordsOf}
-use Rattle.wal.specs.Reader.{Reading, startOf, readLog}
-use Rattle.wal.specs.declared.Writer.{Writer}
+use Rattle.wal.specs.Reader.{startOf, readLog}
 use Rattle.wal.specs.declared.Writer.the-variants.{Fresh}
 use Rattle.recover.specs.Replay.{applied, oneUpdate, updatesIn, replayAnswer}
 use Rattle.sync.specs.Change.{AllWide, Mem, clears, updates, allocates, doesOf, Effect, cleared, updated, allocated, effectOf, entryBy, memBy, stateBy}

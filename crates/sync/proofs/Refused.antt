@@ -4,7 +4,7 @@ use mathlib.Core.Path.{_≡_, refl, sym, ap, ap₂, _∙_, subst}
 use mathlib.Core.Bool.{Bool, true, false, cond, _&&_}
 use mathlib.Core.Logic.{⊎-elim}
 use mathlib.Core.List.{List, [], _∷_}
-use Prim.Native.Nat.{ℕ, zero, suc, _+_, _*_, _/_, _≤_, _<_}
+use Prim.Native.Nat.{ℕ, suc, _+_, _*_, _/_, _≤_, _<_}
 use native.Mathlib.Omega.{arith}
 use lib.Dec.{leb, ltb, eqb}
 use lib.ListN.{length, getD, take, length-set, length-take, length-drop, length-replicate}
@@ -19,13 +19,13 @@ use Rattle.page_diff.specs.Diff.{marked, countOf}
 use Rattle.probe.specs.declared.Limit.{Limit}
 use Rattle.probe.specs.Path.{allocating}
 use Rattle.probe.proofs.Allocating.{refused-numbers}
-use Rattle.wal.specs.Log.{recordOf, startRecord, startSize, finishedLength, clearSize, updateSize}
+use Rattle.wal.specs.Log.{recordOf, startRecord, finishedLength, clearSize, updateSize}
 use Rattle.wal.specs.Writer.{openAt, position, capacity, ifOpen, ifRoom, beginAnswer, beginLog, logBy, finishAnswer}
 use Rattle.wal.specs.declared.Writer.{Writer}
 use Rattle.wal.specs.declared.Writer.the-variants.{Fresh}
 use Rattle.wal.proofs.RoundTrip.{same-capacity}
 use Rattle.sync.specs.Change.{Mem, memOf, Named, bucket, none, cellNames, whereOf, namedBy, tagFits, Does, clears, updates, allocates, doesWith, byNamed, doesOf, Effect, cleared, updated, allocated, byBucket, afterDoes, effectOf, entryBy, sizeBy, tagsBy, marksBy, memBy, stateBy}
-use Rattle.sync.specs.Sync.{pageOf, Came, through, refusedAt, CameTo, cameBy, orRest, orMem, changeAt, changeMem, allOf, memAll, beforeChanges, startMem, startState, SyncSaid, saidDone, saidRefused, saidRefusedAt, saidFinish, saidBy, saidIf, keptIf, logAfter, writerAfter, came, left, syncSays, syncMem, syncWriter}
+use Rattle.sync.specs.Sync.{pageOf, Came, through, refusedAt, orRest, orMem, changeAt, changeMem, allOf, memAll, beforeChanges, startMem, startState, saidDone, saidRefused, saidRefusedAt, saidFinish, saidBy, saidIf, keptIf, logAfter, writerAfter, came, left, syncSays, syncMem, syncWriter}
 use Rattle.sync.specs.declared.Change.{Change}
 use Rattle.sync.specs.declared.SyncState.{SyncState}
 use Rattle.sync.specs.declared.Where.{Where}
@@ -165,10 +165,6 @@ does-number n tags cells c k e = spare (marked (c .diff .words) 126) (marked (c 
         tests true true q = absurd (given-refused (doesWith cl x) k q)
         tests true false q = subst OfChange (refused-one 14 k q) bucket-unfit
         tests false u q = subst OfChange (refused-one 9 k q) bucket-outside
-
-    at-cell : (i : ℕ) (t : Bool) → cond t (given (cellNames (getD cells i 0))) (refused 2) ≡ refused k → 2 ≡ k
-    at-cell i true q = absurd (given-refused (cellNames (getD cells i 0)) k q)
-    at-cell i false q = refused-one 2 k q
 
     only-cells : (w : Where) (i : ℕ) → namedBy w cells ≡ refused i → i ≡ 2
     only-cells (Known b) i q = absurd (given-refused (bucket b) i q)

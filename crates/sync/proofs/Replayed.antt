@@ -1,6 +1,6 @@
 -- Replay accepts the log of a sync, for a table of the same n with the updates' hashes. Assumes nothing.
-use mathlib.Core.Path.{_≡_, refl, sym, ap, ap₂, _∙_}
-use mathlib.Core.Bool.{Bool, true, false, cond, _&&_}
+use mathlib.Core.Path.{_≡_, refl, ap, ap₂, _∙_}
+use mathlib.Core.Bool.{Bool, true, cond, _&&_}
 use mathlib.Core.List.{List, [], _∷_}
 use Prim.Native.Nat.{ℕ, _+_, _<_, _^_}
 use lib.Dec.{ltb}
@@ -8,16 +8,16 @@ use lib.ListN.{length, take}
 use borrow.Author.Tests.{lt-ltb}
 use Rattle.answers.specs.Answers.{Answer, given, refused}
 use Rattle.ht_file.specs.Places.{imageFits}
-use Rattle.probe.specs.Path.{allocating, allocateAnswer}
+use Rattle.probe.specs.Path.{allocating}
 use Rattle.probe.proofs.Allocating.{answer-below}
 use Rattle.recover.specs.Replay.{applied, allInside, updatesIn, replayAnswer}
 use Rattle.recover.proofs.Acceptance.{finished-accepted}
-use Rattle.sync.specs.Change.{AllWide, Mem, doesOf, Effect, cleared, updated, allocated, bucketOf, effectOf, entryBy, memBy, stateBy}
+use Rattle.sync.specs.Change.{AllWide, Mem, doesOf, Effect, cleared, updated, allocated, bucketOf, effectOf, memBy, stateBy}
 use Rattle.sync.specs.Sync.{pageOf, changeAt, changeMem, entriesBy, entriesOf, startMem, startState, saidDone, came, left, syncSays, syncMem}
 use Rattle.sync.specs.declared.Change.{Change}
 use Rattle.sync.specs.declared.SyncState.{SyncState}
 use Rattle.sync.proofs.Accepted.{after-cleared, after-updated, after-allocated, accepted-change}
-use Rattle.sync.proofs.Logged.{entries, done-run, done-length, done-log}
+use Rattle.sync.proofs.Logged.{done-run, done-length, done-log}
 use Rattle.sync.proofs.Plans.{does-clears, does-updates}
 use Rattle.sync.proofs.Untouched.{entry-bucket}
 

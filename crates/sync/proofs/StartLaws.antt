@@ -1,24 +1,20 @@
 -- What the start of a sync counts and tests, and the page of a change. Assumes nothing.
-use mathlib.Core.Path.{_≡_, refl, sym, ap, ap₂, _∙_}
-use mathlib.Core.Bool.{Bool, true, false, cond}
+use mathlib.Core.Path.{_≡_, refl, sym, ap, _∙_}
+use mathlib.Core.Bool.{Bool, true, cond}
 use mathlib.Core.List.{List, [], _∷_}
-use Prim.Native.Nat.{ℕ, _+_, _*_, _/_, _-_, _^_, _≤_, _<_}
+use Prim.Native.Nat.{ℕ, _*_, _/_, _^_, _≤_, _<_}
 use native.Mathlib.Omega.{arith}
 use mathlib.Core.Logic.{⊎-elim}
-use lib.Dec.{ltb, eqb}
 use lib.ListN.{length, take, drop}
 use types.Run.{OneOf}
 use denote.Enum.Declared.{tagOf}
 use borrow.Author.Tests.{lt-ltb, le-ltb, eq-eqb, ne-eqb}
-use Rattle.answers.specs.Answers.{Answer, given, refused, numberSaid, outcomeSaid}
+use Rattle.answers.specs.Answers.{Answer, given, refused, numberSaid}
 use Rattle.answers.specs.Refusals.{numberOf}
 use Rattle.answers.specs.declared.Refusal.{Refusal}
 use Rattle.answers.specs.declared.Number.{Number}
 use Rattle.answers.specs.declared.Number.the-variants as number
 use Rattle.answers.proofs.Number as NumberT
-use Rattle.answers.specs.declared.Outcome.{Outcome}
-use Rattle.answers.specs.declared.Outcome.the-variants as outcome
-use Rattle.answers.proofs.Outcome as OutcomeT
 use Rattle.answers.proofs.Laws.{given-refused, refused-one}
 use Rattle.ht_file.specs.Places.{tagsFit, tagPages, ifTable, ifTags}
 use Rattle.ht_file.proofs.Laws.{table-unfit}
@@ -132,10 +128,6 @@ module _ (n : ℕ) (t k l pages : List ℕ) (count : ℕ) where
     )
 
 -- begin's answer: a refused one leaves the log, an accepted one opens the writer
-pub outcome-given : (x : Outcome) → OneOf (0 ∷ []) (tagOf OutcomeT.the-type x) → outcomeSaid x ≡ given tt
-outcome-given outcome.Done o = refl
-outcome-given (outcome.Refused r) o = absurd (omega arith)
-
 module _ (l : List ℕ) (sync : ℕ) where
   pub begun-left : (j : ℕ) → beginAnswer l ≡ refused j → beginLog l sync ≡ l
   begun-left j h = ap (λ (a : Answer (Unit {0})). logBy a l 0 (startRecord sync)) h

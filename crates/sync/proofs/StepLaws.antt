@@ -1,11 +1,11 @@
 -- One change: its definition test by test, and what is left of a refused and of an accepted one. Assumes nothing.
 use mathlib.Core.Path.{_≡_, refl, sym, ap, ap₂, _∙_}
-use mathlib.Core.Bool.{Bool, true, false, cond}
+use mathlib.Core.Bool.{true, false}
 use mathlib.Core.List.{List, [], _∷_}
 use mathlib.Core.Logic.{⊎-elim}
 use Prim.Native.Nat.{ℕ, _+_}
 use native.Mathlib.Omega.{arith}
-use lib.Dec.{leb, eqb}
+use lib.Dec.{eqb}
 use lib.ListN.{length}
 use types.Run.{OneOf}
 use denote.Enum.Declared.{tagOf}
@@ -22,7 +22,7 @@ use Rattle.wal.specs.declared.Writer.the-variants.{Fresh, Open, Finished}
 use Rattle.wal.proofs.Writer as WriterT
 use Rattle.wal_write.specs.Calls.{roomIn, clearWriter, clearLog, pageUpdate, pageUpdateAnswer, pageUpdateWriter, pageUpdateLog}
 use Rattle.wal_write.proofs.CallLaws.{NotOpen, tested, taken, clear-tests, page-tests}
-use Rattle.sync.specs.Change.{whereOf, Wide, Mem, memOf, Does, clears, updates, allocates, doesOf, Effect, cleared, updated, allocated, bucketOf, afterDoes, effectOf, entryBy, sizeBy, tagsBy, marksBy, cellsBy, occupiedBy, memBy, stateOf, stateBy, pageNumber, takenSaid, StepPromise}
+use Rattle.sync.specs.Change.{whereOf, Wide, Mem, memOf, Does, clears, updates, allocates, doesOf, Effect, bucketOf, afterDoes, effectOf, entryBy, sizeBy, tagsBy, marksBy, cellsBy, occupiedBy, memBy, stateOf, stateBy, pageNumber, takenSaid, StepPromise}
 use Rattle.sync.specs.InnerChange.{outlookSaid}
 use Rattle.sync.specs.declared.Change.{Change}
 use Rattle.sync.specs.declared.SyncState.{SyncState}

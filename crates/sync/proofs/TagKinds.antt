@@ -1,17 +1,17 @@
 -- What a change has done says which kind its bucket's tag had before: full where it cleared or updated, empty or a tombstone where it allocated.
 -- Assumes nothing.
-use mathlib.Core.Path.{_≡_, refl, sym, ap, _∙_}
+use mathlib.Core.Path.{_≡_, ap, _∙_}
 use mathlib.Core.Bool.{Bool, true, cond}
 use mathlib.Core.List.{List}
 use Prim.Native.Nat.{ℕ}
-use lib.ListN.{length, getD}
+use lib.ListN.{getD}
 use borrow.Author.Tests.{eqb-true}
 use Rattle.answers.specs.Answers.{given, refused}
-use Rattle.meta_map.specs.Tags.{Kind, full, isKind, kindOf, fullTag}
+use Rattle.meta_map.specs.Tags.{full, isKind, kindOf, fullTag}
 use Rattle.meta_map.proofs.Laws.{full-tag-kind}
 use Rattle.page_diff.specs.Diff.{marked}
 use Rattle.probe.specs.Path.{allocating}
-use Rattle.probe.proofs.Promises.{AllocatedAt, allocated-bucket}
+use Rattle.probe.proofs.Promises.{allocated-bucket}
 use Rattle.sync.specs.Change.{Mem, clears, updates, Does, doesOf, Effect, cleared, updated, allocated, kindBefore, kindTaken, effectOf}
 use Rattle.sync.specs.declared.Change.{Change}
 use Rattle.sync.specs.declared.SyncState.{SyncState}

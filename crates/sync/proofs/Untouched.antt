@@ -16,7 +16,7 @@ use Rattle.meta_map.specs.Tags.{fullTag}
 use Rattle.wal.specs.Log.{Entry}
 use Rattle.recover.specs.Replay.{bucketOf as entryBucket}
 use Rattle.sync.specs.Change.{whereOf, Mem, bucket, none, namedBy, tagFits, allocates, doesWith, byNamed, doesOf, Effect, cleared, updated, allocated, bucketOf, effectOf, entryBy, tagsBy, marksBy, cellsAt, memBy, stateBy}
-use Rattle.sync.specs.Sync.{pageOf, cameBy, orRest, orMem, changeAt, changeMem, allOf, memAll, entriesBy, entriesOf}
+use Rattle.sync.specs.Sync.{pageOf, cameBy, orMem, changeAt, changeMem, allOf, memAll, entriesBy, entriesOf}
 use Rattle.sync.specs.declared.Change.{Change}
 use Rattle.sync.specs.declared.SyncState.{SyncState}
 use Rattle.sync.specs.declared.Where.{Where}

@@ -8,7 +8,7 @@ use lib.ListN.{length, getD, drop}
 use lib.Seq.{drop-cons, drop-length}
 use Rattle.wal.specs.declared.Writer.{Writer}
 use Rattle.sync.specs.Change.{Mem}
-use Rattle.sync.specs.Sync.{Came, through, refusedAt, CameTo, changeAt, changeMem, orRest, orMem, allOf, memAll, Going, on, unbegun, stopped, goingBy, changeGoing, changeLeft}
+use Rattle.sync.specs.Sync.{Came, through, refusedAt, changeAt, changeMem, orRest, orMem, allOf, memAll, Going, on, unbegun, stopped, goingBy, changeGoing, changeLeft}
 use Rattle.sync.specs.declared.Change.{Change}
 use Rattle.sync.specs.declared.SyncState.{SyncState}
 

@@ -1,6 +1,6 @@
 -- The widths of a change's parts and of a sync's number, out of what their types say of them; and of a whole list, change by change. Assumes nothing.
 use mathlib.Core.List.{List, [], _∷_, map}
-use Prim.Native.Nat.{ℕ, zero, suc, _+_, _<_, _^_}
+use Prim.Native.Nat.{ℕ, zero, suc, _<_, _^_}
 use native.Mathlib.Omega.{arith}
 use lib.ListN.{length, getD}
 use mir.Val.{Val}

@@ -1,5 +1,5 @@
 -- Field by field. Assumes nothing.
-use mathlib.Core.Path.{_≡_, ap}
+use mathlib.Core.Path.{ap}
 use Rattle.sync.specs.declared.SyncStart.{SyncStart}
 use Rattle.wal.specs.declared.Writer.{Writer}
 use borrow.Author.Needs.{needs}

@@ -1,5 +1,5 @@
 -- Field by field. Assumes nothing.
-use mathlib.Core.Path.{_≡_, ap₂}
+use mathlib.Core.Path.{ap₂}
 use Rattle.sync.specs.Change.{stateOf as stepState}
 use Rattle.probe.specs.declared.Limit.{Limit}
 use Rattle.wal.specs.declared.Writer.{Writer}

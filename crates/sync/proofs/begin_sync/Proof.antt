@@ -2,13 +2,13 @@
 use mathlib.Core.Path.{_≡_, sym, ap, ap₂, _∙_}
 use mathlib.Core.Bool.{true}
 use mathlib.Core.List.{List, []}
-use Prim.Native.Nat.{ℕ, _+_, _*_, _/_, _<_, _^_}
+use Prim.Native.Nat.{ℕ, _*_, _<_, _^_}
 use native.Mathlib.Omega.{arith}
 use lib.ListN.{length}
 use Rattle.answers.specs.Answers.{outcomeSaid}
 use Rattle.answers.specs.Refusals.{numberOf}
 use Rattle.ht_file.specs.Places.{tagsFit, tagPages}
-use Rattle.ht_file.proofs.Laws.{table-fits, table-unfit}
+use Rattle.ht_file.proofs.Laws.{table-fits}
 use Rattle.probe.specs.Path.{hitLimit}
 use Rattle.probe.specs.declared.Limit.{Limit}
 use Rattle.sync.specs.Change.{memOf, stateOf}
@@ -18,13 +18,6 @@ use Rattle.sync.proofs.Widths.{typed-number}
 use borrow.Author.Needs.{needs}
 use Rattle.sync.proofs.begin_sync.Statement.{statement}
 use Rattle.sync.proofs.begin_sync.Tie as tie
-use Rattle.sync.proofs.begin_sync.Reads as reads
-use Rattle.sync.proofs.begin_sync.Lts as lts
-use Rattle.blocks.proofs.zero_all.Reads as zero-all-reads
-use Rattle.ht_file.proofs.check_tags.Reads as check-tags-reads
-use Rattle.ht_file.proofs.tag_pages.Reads as tag-pages-reads
-use Rattle.sync.proofs.full_tags.Reads as full-tags-reads
-use Rattle.wal_write.proofs.begin.Reads as begin-reads
 
 -- what is lent
 module _ (c : tie.Start) where

@@ -1,8 +1,8 @@
 -- A sync that was refused stays as it is. Else the page of the change is lent to the step, and its answer told on. Assumes nothing.
-use mathlib.Core.Path.{_≡_, refl, sym, ap, ap₂, _∙_}
-use mathlib.Core.List.{List, []}
+use mathlib.Core.Path.{_≡_, sym, ap, ap₂, _∙_}
+use mathlib.Core.List.{List}
 use mathlib.Core.Logic.{⊎-elim}
-use Prim.Native.Nat.{ℕ, _+_, _*_, _/_, _-_, _≤_, _<_}
+use Prim.Native.Nat.{ℕ, _-_, _≤_}
 use native.Mathlib.Omega.{arith}
 use lib.ListN.{length, take, drop}
 use Rattle.sync.specs.Change.{Mem, memOf}
@@ -15,9 +15,6 @@ use Rattle.sync.proofs.StartLaws.{page-there, page-none, change-none, c
 use borrow.Author.Needs.{needs}
 use Rattle.sync.proofs.change_at.Statement.{statement}
 use Rattle.sync.proofs.change_at.Tie as tie
-use Rattle.sync.proofs.change_at.Reads as reads
-use Rattle.sync.proofs.change_at.Lts as lts
-use Rattle.sync.proofs.step.Reads as step-reads
 
 -- the state that the sync goes on with; the part of the pages that is lent lies within them, and is the change's page
 module _ (c : tie.Joined1) where

@@ -9,9 +9,6 @@ use Rattle.sync.specs.declared.Run.{Run}
 use borrow.Author.Needs.{needs}
 use Rattle.sync.proofs.end_sync.Statement.{statement}
 use Rattle.sync.proofs.end_sync.Tie as tie
-use Rattle.sync.proofs.end_sync.Reads as reads
-use Rattle.sync.proofs.end_sync.Lts as lts
-use Rattle.wal_write.proofs.finish.Reads as finish-reads
 
 -- what is said of a sync that goes as g, said of one that is the same
 told : (r g : Run) (l : List ℕ) → r ≡ g → (s : SyncSaid) (w : Writer) (x : List ℕ)

@@ -1,17 +1,12 @@
 -- The tags fit, so their count is given. Assumes nothing.
-use mathlib.Core.Path.{_≡_, sym, ap, _∙_}
-use mathlib.Core.Bool.{Bool, cond}
-use Prim.Native.Nat.{ℕ}
-use Rattle.answers.specs.Answers.{Answer, given, refused, numberSaid}
+use mathlib.Core.Path.{sym, ap, _∙_}
+use Rattle.answers.specs.Answers.{given, numberSaid}
 use Rattle.answers.proofs.Laws.{given-one}
 use Rattle.meta_map.specs.Tags.{full, countOf}
 use Rattle.sync.proofs.StartLaws.{count-given, number-given}
 use borrow.Author.Needs.{needs}
 use Rattle.sync.proofs.full_tags.Statement.{statement}
 use Rattle.sync.proofs.full_tags.Tie as tie
-use Rattle.sync.proofs.full_tags.Reads as reads
-use Rattle.sync.proofs.full_tags.Lts as lts
-use Rattle.meta_map.proofs.full_count.Reads as full-count-reads
 
 -- src/lib.rt:380:28
 full-count-requires : tie.Need-full-count-requires

@@ -1,23 +1,21 @@
 -- The plan, then the test of room, then the search for a bucket: each as the definition has it. Assumes nothing.
 use Rattle.sync.proofs.Plans.{does-clears, does-updates, does-allocates}
-use Rattle.sync.specs.Change.{memOf, clears, updates, allocates, cleared, updated, allocated, byBucket, doesOf, afterDoes}
+use Rattle.sync.specs.Change.{memOf, cleared, updated, byBucket, afterDoes}
 use Rattle.sync.specs.InnerChange.{plannedSaid}
 use Rattle.wal_write.specs.Calls.{roomIn}
-use Rattle.wal.specs.Writer.{ifRoom}
-use Rattle.wal.specs.Log.{clearSize, updateSize}
+use Rattle.wal.specs.Log.{updateSize}
 use Rattle.probe.proofs.Allocating.{answer-below}
 use Rattle.probe.specs.Path.{allocating, allocateAnswer, allocatedSaid}
 use Rattle.page_diff.proofs.SlotLaws.{slots-few}
 use Rattle.page_diff.specs.Diff.{countOf}
-use Rattle.ht_file.specs.Places.{tagsFit}
 use Rattle.answers.specs.Refusals.{numberOf}
-use Rattle.answers.specs.Answers.{Answer, given, refused}
+use Rattle.answers.specs.Answers.{given, refused}
 use lib.ListN.{length}
 use native.Mathlib.Omega.{arith}
-use Prim.Native.Nat.{ℕ, _+_, _*_, _≤_}
-use mathlib.Core.List.{List, []}
+use Prim.Native.Nat.{ℕ, _+_, _*_}
+use mathlib.Core.List.{[]}
 use mathlib.Core.Bool.{Bool, true, false, cond}
-use mathlib.Core.Path.{_≡_, sym, ap, ap₂, _∙_}
+use mathlib.Core.Path.{_≡_, sym, ap, _∙_}
 use borrow.Author.Needs.{needs}
 use Rattle.sync.proofs.look_ahead.Statement.{statement}
 use Rattle.sync.proofs.look_ahead.Tie as tie

@@ -5,7 +5,7 @@ use Rattle.answers.specs.Answers.{given, refused}
 use borrow.Author.Tests.{lt-ltb, le-ltb, eq-eqb, ne-eqb}
 use lib.ListN.{length, getD}
 use mathlib.Core.Bool.{Bool, cond}
-use mathlib.Core.Path.{_≡_, sym, ap, _∙_}
+use mathlib.Core.Path.{sym, ap, _∙_}
 use borrow.Author.Needs.{needs}
 use Rattle.sync.proofs.name_of.Statement.{statement}
 use Rattle.sync.proofs.name_of.Tie as tie

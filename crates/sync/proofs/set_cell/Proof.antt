@@ -3,7 +3,7 @@ use Rattle.sync.proofs.Plans.{no-cell}
 use Rattle.sync.specs.declared.Where.{Where}
 use Rattle.sync.specs.Change.{cellsAt}
 use lib.Seq.{set-out}
-use mathlib.Core.Path.{_≡_, sym, ap, _∙_}
+use mathlib.Core.Path.{sym, ap, _∙_}
 use borrow.Author.Needs.{needs}
 use Rattle.sync.proofs.set_cell.Statement.{statement}
 use Rattle.sync.proofs.set_cell.Tie as tie

@@ -1,8 +1,8 @@
 -- The tests in order, then the arm of what look_ahead saw: each leaves what the definition says. Assumes nothing.
 use mathlib.Core.Path.{_≡_, refl, sym, ap, ap₂, _∙_, subst}
-use mathlib.Core.Bool.{Bool, true, false}
-use mathlib.Core.List.{List, []}
-use Prim.Native.Nat.{ℕ, _+_, _-_, _/_, _≤_, _<_}
+use mathlib.Core.Bool.{true}
+use mathlib.Core.List.{List}
+use Prim.Native.Nat.{ℕ, _/_, _≤_, _<_}
 use native.Mathlib.Omega.{arith}
 use lib.ListN.{length, set}
 use Rattle.answers.specs.Answers.{outcomeSaid}
@@ -21,20 +21,6 @@ use Rattle.sync.proofs.Widths.{typed-wide}
 use borrow.Author.Needs.{needs}
 use Rattle.sync.proofs.step.Statement.{statement}
 use Rattle.sync.proofs.step.Tie as tie
-use Rattle.sync.proofs.step.Reads as reads
-use Rattle.sync.proofs.step.Lts as lts
-use Rattle.ht_file.proofs.check_tags.Reads as check-tags-reads
-use Rattle.ht_file.proofs.tag_pages.Reads as tag-pages-reads
-use Rattle.meta_map.proofs.full_entry.Reads as full-entry-reads
-use Rattle.sync.proofs.look_ahead.Reads as look-ahead-reads
-use Rattle.sync.proofs.one_less.Reads as one-less-reads
-use Rattle.sync.proofs.one_more.Reads as one-more-reads
-use Rattle.sync.proofs.refused_step.Reads as refused-step-reads
-use Rattle.sync.proofs.set_cell.Reads as set-cell-reads
-use Rattle.sync.proofs.taken_step.Reads as taken-step-reads
-use Rattle.sync.proofs.write_tag.Reads as write-tag-reads
-use Rattle.wal_write.proofs.write_clear.Reads as write-clear-reads
-use Rattle.wal_write.proofs.write_page_update.Reads as write-page-update-reads
 
 -- what is lent
 module _ (c : tie.Start) where

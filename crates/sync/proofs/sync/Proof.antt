@@ -61,8 +61,8 @@ use Rattle.sync.specs.declared.Run.{Run}
 use Rattle.sync.specs.declared.SyncStart.{SyncStart}
 use Rattle.sync.specs.declared.SyncAnswer.{SyncAnswer}
 use Rattle.sync.proofs.Frame.{word, mt, pgTy, chTy, lt, free, holds, free-all, peel, fpeel, ended}
-use Rattle.sync.proofs.Again.{LentAgain, lent-again, back-again}
-use Rattle.sync.proofs.Shared.{LentShared, lent-shared, back-shared}
+use Rattle.sync.proofs.Again.{lent-again, back-again}
+use Rattle.sync.proofs.Shared.{lent-shared, back-shared}
 use Rattle.sync.proofs.WalkLaws.{no-change, goesOn, goes-at, goes-end}
 use Rattle.sync.proofs.SyncLaws as laws
 use Rattle.sync.proofs.Widths.{typed-wide, all-wide}

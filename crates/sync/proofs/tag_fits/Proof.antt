@@ -2,7 +2,7 @@
 use Rattle.sync.specs.Change.{tagFits}
 use lib.Dec.{eqb}
 use mathlib.Core.Bool.{Bool}
-use mathlib.Core.Path.{_≡_, sym, ap, _∙_}
+use mathlib.Core.Path.{sym, ap, _∙_}
 use borrow.Author.Needs.{needs}
 use Rattle.sync.proofs.tag_fits.Statement.{statement}
 use Rattle.sync.proofs.tag_fits.Tie as tie

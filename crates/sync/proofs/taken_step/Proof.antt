@@ -1,13 +1,10 @@
 -- The page's number is told on; the rest is as it was given. Assumes nothing.
-use mathlib.Core.Path.{_≡_, refl, ap}
+use mathlib.Core.Path.{refl, ap}
 use Prim.Native.Nat.{ℕ, _+_}
 use Rattle.answers.specs.Answers.{given}
 use borrow.Author.Needs.{needs}
 use Rattle.sync.proofs.taken_step.Statement.{statement}
 use Rattle.sync.proofs.taken_step.Tie as tie
-use Rattle.sync.proofs.taken_step.Reads as reads
-use Rattle.sync.proofs.taken_step.Lts as lts
-use Rattle.ht_file.proofs.tag_pages.Reads as tag-pages-reads
 
 -- src/lib.rt:301:19
 tag-pages-requires : tie.Need-tag-pages-requires

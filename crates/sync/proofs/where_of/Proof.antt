@@ -1,5 +1,4 @@
 -- By the kind. Assumes nothing.
-use Rattle.sync.specs.declared.Where.{Where}
 use Rattle.sync.specs.declared.Where.the-variants.{Known, Fresh, Cell}
 use borrow.Author.Tests.{eq-eqb, ne-eqb}
 use mathlib.Core.Bool.{Bool, cond}

@@ -1,13 +1,10 @@
 -- The two are written, the mark at the index of the tag's page. Assumes nothing.
-use mathlib.Core.Path.{_≡_, refl, ap}
+use mathlib.Core.Path.{refl, ap}
 use Prim.Native.Nat.{ℕ}
 use lib.ListN.{set}
 use borrow.Author.Needs.{needs}
 use Rattle.sync.proofs.write_tag.Statement.{statement}
 use Rattle.sync.proofs.write_tag.Tie as tie
-use Rattle.sync.proofs.write_tag.Reads as reads
-use Rattle.sync.proofs.write_tag.Lts as lts
-use Rattle.meta_map.proofs.page_index.Reads as page-index-reads
 
 -- src/lib.rt:337:13
 page-index-requires : tie.Need-page-index-requires
