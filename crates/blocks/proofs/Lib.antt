@@ -2,3 +2,4 @@ pub mod Copy
 pub mod Laws
 pub mod Examples
 pub mod Parts
+pub mod Same

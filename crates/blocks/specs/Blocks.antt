@@ -1,8 +1,8 @@
 -- 01, 'Log': "Little-endian." Numbers and blocks of bytes in a slice, over any width. Assumes nothing.
-use mathlib.Core.Bool.{Bool, true, false, cond}
+use mathlib.Core.Bool.{Bool, true, false, cond, _&&_}
 use mathlib.Core.List.{List, [], _∷_, _++_}
 use Prim.Native.Nat.{ℕ, zero, suc, _+_, _*_, _/_, _%_}
-use lib.Dec.{leb}
+use lib.Dec.{leb, eqb}
 use lib.ListN.{length, take, drop, replicate}
 
 -- the number that bytes are, the lowest byte first
@@ -32,3 +32,10 @@ tabulate f (suc n) = tabulate f n ++ (f n ∷ [])
 unfoldable pub flat : List (List ℕ) → List ℕ
 flat [] = []
 flat (n ∷ ns) = n ++ flat ns
+
+-- the same bytes
+unfoldable pub sameBytes : List ℕ → List ℕ → Bool
+sameBytes [] [] = true
+sameBytes [] (y ∷ ys) = false
+sameBytes (x ∷ xs) [] = false
+sameBytes (x ∷ xs) (y ∷ ys) = eqb x y && sameBytes xs ys

@@ -3,7 +3,7 @@
 // read and nothing is written. A block goes through an array by value, which compiles to wide moves.
 ghost use mathlib.Core.Path.{_≡_};
 ghost use lib.ListN.{length, replicate};
-ghost use Rattle.blocks.specs.Blocks.{le, bytesOf, block, put};
+ghost use Rattle.blocks.specs.Blocks.{le, bytesOf, block, put, sameBytes};
 
 // The number that four bytes are.
 pub fn u32_of(b: [u8; 4]) -> u32
@@ -264,4 +264,19 @@ pub fn zero_all(s: &mut [u8])
 {
     let n = s.len();
     put_zeros(s, 0, n);
+}
+
+// Whether two blocks are the same. All bytes are looked at.
+pub fn same_16(a: [u8; 16], b: [u8; 16]) -> bool
+    ensures { λ r. ⌜ r ≡ sameBytes a b ⌝ }
+{
+    let mut same = true;
+    let mut k = 0;
+    while k < 16 {
+        if a[k] != b[k] {
+            same = false;
+        }
+        k += 1;
+    }
+    same
 }

@@ -8,12 +8,12 @@ use native.Mathlib.Numerals.{add-one}
 use native.Mathlib.Omega.{arith}
 use lib.ListN.{length, getD, take, drop, length-drop}
 use lib.Seq.{getD-take, getD-drop, length-take-le, ext-getD}
-use Rattle.blocks.specs.Blocks.{le, block}
+use Rattle.blocks.specs.Blocks.{le, block, sameBytes}
 use Rattle.blocks.proofs.Laws.{block-length, block-getD}
 use Rattle.ht_file.specs.Places.{imageLength, pageStart, startIn}
 use Rattle.ht_file.proofs.Laws.{both-hold, start-is}
-use Rattle.probe.specs.Path.{sameBytes, pageEnd}
-use Rattle.probe.proofs.Bytes.{same-equal, equal-same}
+use Rattle.probe.specs.Path.{pageEnd}
+use Rattle.blocks.proofs.Same.{same-equal, equal-same}
 use Rattle.meta_map.specs.Tags.{isFull}
 use Rattle.label_search.specs.Labels.{labelled, doubled}
 use Rattle.label_search.specs.InnerFilter.{mixed, keyOf}

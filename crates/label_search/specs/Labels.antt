@@ -5,9 +5,10 @@ use Prim.Native.Nat.{ℕ, zero, suc}
 use lib.Dec.{ltb}
 use lib.ListN.{getD}
 use Rattle.answers.specs.Answers.{Answer, given}
+use Rattle.blocks.specs.Blocks.{sameBytes}
 use Rattle.ht_file.specs.Places.{ifImage}
 use Rattle.meta_map.specs.Tags.{isFull}
-use Rattle.probe.specs.Path.{sameBytes, pageEnd}
+use Rattle.probe.specs.Path.{pageEnd}
 
 -- a full bucket before k has the label l: a search among them
 unfoldable pub labelled : List ℕ → ℕ → List ℕ → ℕ → Bool

@@ -1,16 +1,15 @@
 -- Laws of a number's binary digits, `digit x i`: of `|`, `&`, a shift, a power of two, a low mask; what `trailing_zeros` and `count_ones` say of them.
 -- Over any width. Assumes nothing.
-use mathlib.Core.Path.{_≡_, refl, sym, ap, ap₂, _∙_, subst}
-use mathlib.Core.Logic.{_⊎_, inl, inr}
+use mathlib.Core.Path.{_≡_, refl, sym, ap, ap₂, _∙_}
 use Prim.Native.Nat.{ℕ, zero, suc, _+_, _-_, _*_, _/_, _%_, _^_, _≤_, _<_, zero-le, suc-le-suc, min, max}
-use native.Mathlib.Nat.{div-one, div-self, div-eq-of-lt, mod-lt, mod-eq-of-lt, mul-mod-left, zero-div, zero-mod, lt-of-lt-of-le, lt-of-not-le, not-le-of-lt, zero-lt-suc, lt-suc-self, lt-of-le-of-lt, sub-le, mod-self, add-zero}
-use native.Mathlib.Numerals.{add-one, one-add}
+use native.Mathlib.Nat.{div-one, div-self, div-eq-of-lt, mod-lt, mod-eq-of-lt, mul-mod-left, lt-of-lt-of-le, lt-of-not-le, lt-suc-self, lt-of-le-of-lt, sub-le, mod-self, add-zero}
+use native.Mathlib.Numerals.{one-add}
 use native.Mathlib.Decide.{decLe}
 use native.Mathlib.Omega.{arith}
 use lib.Arith.{digits-mod}
 use lib.Pow.{pow-pos, pow-mono, pow-lt, pow-add, shl-shr, shr-shr, field, mod-mod-pow, mod-pow-add, split}
 use lib.Bits.{bitAnd, bitOr, and-step, or-step, and-shr, or-shr, and-mask, and-block, and-self}
-use lib.Count.{ones, ones-cat, trailingZeros, under, trailing-le}
+use lib.Count.{ones, ones-cat, trailingZeros, under}
 use Rattle.page_diff.specs.Diff.{digit}
 
 pub digit-zero : (x : ℕ) → digit x 0 ≡ x % 2

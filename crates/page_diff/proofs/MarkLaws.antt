@@ -1,20 +1,19 @@
 -- Laws of marks: the two words and their marks determine each other; the marks after a set, a join and a clear, and without the first.
 -- Assumes nothing.
 use mathlib.Core.Path.{_≡_, refl, sym, ap, ap₂, _∙_, subst}
-use mathlib.Core.Bool.{Bool, true, false, not, _&&_, _||_, true≢false, and-true, and-false, or-comm, or-false}
+use mathlib.Core.Bool.{Bool, true, false, not, _&&_, _||_, and-true, and-false, or-comm, or-false}
 use mathlib.Core.List.{List, [], _∷_}
-use Prim.Native.Nat.{ℕ, zero, suc, _+_, _-_, _*_, _/_, _%_, _^_, _≤_, _<_, zero-le, max}
+use Prim.Native.Nat.{ℕ, zero, suc, _+_, _-_, _*_, _/_, _%_, _^_, _≤_, _<_, max}
 use native.Mathlib.Nat.{mod-eq-of-lt, mod-one, lt-of-not-le, lt-of-lt-of-le, lt-of-le-of-lt, not-le-of-lt, mod-lt, zero-add, pow-suc}
 use native.Mathlib.Decide.{decLe}
 use native.Mathlib.Omega.{arith}
-use lib.Dec.{eqb, ltb, leb}
+use lib.Dec.{eqb, leb}
 use lib.ListN.{length, getD, set}
 use lib.Pow.{pow-pos, pow-lt, pow-mono, low, high}
 use lib.Bits.{bitAnd, bitOr, and-mask, or-lt, and-le-l}
-use lib.Count.{trailingZeros}
 use borrow.Author.Tests.{eq-eqb, ne-eqb, eqb-true, eqb-false, le-leb, lt-leb}
 use Rattle.page_diff.specs.Diff.{digit, marked, one, wordOf, ofMarks, setMarks, reserved}
-use Rattle.page_diff.proofs.Digits.{digit-lt, digit-high, digit-none, digit-or, digit-pow-same, digit-pow-above, digit-pow-below, digit-low, more-digits, Lowest, lowest, lowest-found, drop-lowest, digit-dropped-low, digit-dropped-high}
+use Rattle.page_diff.proofs.Digits.{digit-lt, digit-high, digit-or, digit-pow-same, digit-pow-above, digit-pow-below, digit-low, more-digits}
 
 -- two tests that hold together are one
 pub eqb-iff : (a b c d : ℕ) → (a ≡ b → c ≡ d) → (c ≡ d → a ≡ b) → eqb a b ≡ eqb c d

@@ -1,6 +1,6 @@
 -- The step along the marked slots by trailing zeros and a cleared bit: the lowest set digit is the first slot, and `x & (x - 1)` is the
 -- word without it. Assumes nothing.
-use mathlib.Core.Path.{_≡_, refl, sym, ap, ap₂, _∙_, subst}
+use mathlib.Core.Path.{_≡_, refl, sym, ap, ap₂, _∙_}
 use mathlib.Core.Bool.{Bool, true, false, not, _&&_, true≢false, and-true, and-false}
 use mathlib.Core.List.{List, [], _∷_}
 use Prim.Native.Nat.{ℕ, suc, _+_, _-_, _*_, _/_, _^_, _≤_, _<_}
@@ -13,7 +13,7 @@ use lib.Bits.{bitAnd, and-le-l}
 use lib.Count.{trailingZeros}
 use borrow.Author.Tests.{eq-eqb, ne-eqb}
 use Rattle.page_diff.specs.Diff.{digit, marked, firstSlot, withoutFirst}
-use Rattle.page_diff.proofs.Digits.{digit-none, Lowest, lowest, lowest-found, drop-lowest, digit-dropped-low, digit-dropped-high}
+use Rattle.page_diff.proofs.Digits.{digit-none, lowest, lowest-found, drop-lowest, digit-dropped-low, digit-dropped-high}
 use Rattle.page_diff.proofs.MarkLaws.{bit, on, off, eqb-iff, mark-low, mark-high, by-marks, two-words, by-word}
 use Rattle.page_diff.proofs.SlotLaws.{first-is, first-none}
 

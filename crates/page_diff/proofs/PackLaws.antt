@@ -1,5 +1,5 @@
 -- What a turn of packing and of unpacking adds, and what they end with. Assumes nothing.
-use mathlib.Core.Path.{_≡_, refl, sym, ap, ap₂, _∙_, subst}
+use mathlib.Core.Path.{_≡_, refl, sym, ap, ap₂, _∙_}
 use mathlib.Core.Bool.{Bool, true, false, cond, _&&_, and-true}
 use mathlib.Core.List.{List, [], _∷_, _++_, map, map-append}
 use Prim.Native.Nat.{ℕ, suc, _+_, _-_, _*_, _/_, _%_, _≤_, _<_}
@@ -7,13 +7,13 @@ use native.Mathlib.Nat.{lt-of-not-le}
 use native.Mathlib.Numerals.{add-one}
 use native.Mathlib.Decide.{decLe}
 use native.Mathlib.Omega.{arith}
-use lib.Dec.{eqb, ltb}
+use lib.Dec.{ltb}
 use lib.ListN.{length, getD, set, take, replicate, length-append, length-map}
 use lib.Seq.{set-at, append-snoc, take-suc, take-length, length-take-le}
 use borrow.Author.Tests.{lt-ltb, le-ltb, eq-eqb, ne-eqb}
 use Rattle.answers.specs.Answers.{Answer, given, refused, accepted}
 use Rattle.blocks.specs.Blocks.{put, tabulate}
-use Rattle.blocks.proofs.Laws.{put-in, put-left, put-right, put-length, tabulate-is}
+use Rattle.blocks.proofs.Laws.{put-in, put-left, put-right, tabulate-is}
 use Rattle.page_diff.specs.Diff.{marked, slotsBelow, slots, countOf, reserved}
 use Rattle.page_diff.specs.Pack.{nodeAt, tableOf, packedBy, packAnswer, packedOf, rank, unpackAnswer, unpackedByte, unpackedPage}
 use Rattle.page_diff.proofs.SlotLaws.{SlotAt, at-rank, rank-below}

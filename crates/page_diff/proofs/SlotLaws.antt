@@ -1,19 +1,18 @@
 -- Laws of the marked slots as a rising list: what stands at an index, its rank, its length, the first and the others. Assumes nothing.
 use mathlib.Core.Path.{_≡_, refl, sym, ap, ap₂, _∙_, subst}
 use mathlib.Core.Logic.{_⊎_, inl, inr, ⊎-elim}
-use mathlib.Core.Bool.{Bool, true, false, not, _&&_, _||_, true≢false, and-true, and-false, or-true}
+use mathlib.Core.Bool.{Bool, true, false, not, _&&_, and-true, and-false}
 use mathlib.Core.List.{List, [], _∷_, _++_, append-nil}
-use Prim.Native.Nat.{ℕ, zero, suc, _+_, _-_, _*_, _/_, _%_, _^_, _≤_, _<_, zero-le}
+use Prim.Native.Nat.{ℕ, zero, suc, _+_, _-_, _%_, _^_, _≤_, _<_, zero-le}
 use native.Mathlib.Nat.{eq-or-lt-of-le, lt-of-not-le, mod-one, mod-eq-of-lt, add-comm, add-assoc, add-zero, zero-add, suc-add}
 use native.Mathlib.Decide.{decLe}
-use native.Mathlib.Numerals.{add-one}
 use native.Mathlib.Omega.{arith}
 use lib.Dec.{eqb}
 use lib.ListN.{length, getD, drop, length-append, List·getD-append, List·getD-eq-default}
-use lib.Seq.{getD-append-add, getD-drop, drop-append-le, drop-drop, drop-nil}
+use lib.Seq.{getD-append-add, drop-append-le, drop-nil}
 use lib.Count.{ones}
 use borrow.Author.Tests.{eq-eqb, ne-eqb}
-use Rattle.page_diff.specs.Diff.{digit, marked, just, slotsBelow, slots, countOf, reserved, firstSlot}
+use Rattle.page_diff.specs.Diff.{digit, marked, just, slotsBelow, slots, countOf, firstSlot}
 use Rattle.page_diff.proofs.Digits.{digit-lt, ones-more}
 use Rattle.page_diff.proofs.MarkLaws.{bit, mark-low, mark-high}
 

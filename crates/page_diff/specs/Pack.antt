@@ -1,10 +1,10 @@
 -- 01, 'Page' and 'Diff': the marked nodes of a page, packed and put back. Assumes nothing.
 use mathlib.Core.Path.{_≡_}
-use mathlib.Core.Bool.{Bool, cond}
-use mathlib.Core.List.{List, [], _∷_, _++_, map}
+use mathlib.Core.Bool.{cond}
+use mathlib.Core.List.{List, [], _++_, map}
 use Prim.Native.Nat.{ℕ, _+_, _-_, _*_, _/_, _%_}
 use lib.Dec.{eqb}
-use lib.ListN.{length, getD, take, drop, replicate}
+use lib.ListN.{length, getD, replicate}
 use Rattle.answers.specs.Answers.{Answer, given, refused, accepted, outcomeSaid}
 use Rattle.answers.specs.declared.Outcome.{Outcome}
 use Rattle.blocks.specs.Blocks.{block, put, flat, tabulate}

@@ -1,7 +1,6 @@
 pub mod Visits
 pub mod Walk
 pub mod Tests
-pub mod Bytes
 pub mod Allocating
 pub mod Promises
 pub mod OneAnswer

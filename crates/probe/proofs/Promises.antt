@@ -10,13 +10,14 @@ use lib.ListN.{length, getD, set, length-set}
 use lib.Seq.{getD-set-same, getD-set-other}
 use borrow.Author.Tests.{eqb-true, eq-eqb}
 use Rattle.answers.specs.Answers.{Answer, given, refused}
+use Rattle.blocks.specs.Blocks.{sameBytes}
 use Rattle.ht_file.specs.Places.{imageFits}
 use Rattle.ht_file.proofs.Laws.{both-hold, image-fits-facts}
 use Rattle.meta_map.specs.Tags.{fullTag}
 use Rattle.meta_map.proofs.Laws.{kind-empty, full-tag-not-empty}
 use Rattle.probe.specs.declared.Limit.{Limit}
-use Rattle.probe.specs.Path.{visit, visits, pathFrom, hits, isEmpty, isTombstone, isFree, isHit, Stop, stopAt, nowhere, firstStop, sameBytes, pageEnd, holds, Sought, foundAt, absent, unreached, stopsLookup, lookupSaw, lookingUp, lookupAnswer, allows, allocateAnswer, tagsAfter, allocatedTags}
-use Rattle.probe.proofs.Bytes.{same-equal, equal-same}
+use Rattle.probe.specs.Path.{visit, visits, pathFrom, hits, isEmpty, isTombstone, isFree, isHit, Stop, stopAt, nowhere, firstStop, pageEnd, holds, Sought, foundAt, absent, unreached, stopsLookup, lookupSaw, lookingUp, lookupAnswer, allows, allocateAnswer, tagsAfter, allocatedTags}
+use Rattle.blocks.proofs.Same.{same-equal, equal-same}
 use Rattle.probe.proofs.Tests.{empty-is}
 use Rattle.probe.proofs.Visits.{visit-below}
 use Rattle.probe.proofs.Walk.{Passed, Stopped, stop-told, never-told}

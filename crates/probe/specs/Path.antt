@@ -1,11 +1,12 @@
 -- 01, 'Path': the visits of a hash, and what probing on, lookup and allocation answer. Assumes nothing.
-use mathlib.Core.Bool.{Bool, true, false, cond, _&&_, _||_}
+use mathlib.Core.Bool.{Bool, true, cond, _&&_, _||_}
 use mathlib.Core.List.{List, [], _∷_}
 use Prim.Native.Nat.{ℕ, zero, suc, _+_, _*_, _/_, _%_}
 use lib.Dec.{leb, ltb, eqb}
 use lib.ListN.{getD, set, take, drop}
 use Rattle.answers.specs.Answers.{Answer, given, refused, andThen}
 use Rattle.answers.specs.Refusals.{numberOf}
+use Rattle.blocks.specs.Blocks.{sameBytes}
 use Rattle.ht_file.specs.Places.{pageStart, ifTags, ifImage}
 use Rattle.meta_map.specs.Tags.{empty, tombstone, kindOf, isKind, fullTag, one}
 use Rattle.probe.specs.declared.Limit.{Limit}
@@ -78,13 +79,6 @@ probing ts n h k = probeSaw ts (firstStop (stopsProbe ts h) (k % (2 * n)) (pathF
 
 abbrev pub probeAnswer : List ℕ → ℕ → ℕ → ℕ → Answer Probe
 probeAnswer ts n h k = ifTags ts n (given (probing ts n h k))
-
--- the same bytes
-unfoldable pub sameBytes : List ℕ → List ℕ → Bool
-sameBytes [] [] = true
-sameBytes [] (y ∷ ys) = false
-sameBytes (x ∷ xs) [] = false
-sameBytes (x ∷ xs) (y ∷ ys) = eqb x y && sameBytes xs ys
 
 -- the last 32 bytes of a bucket's page
 abbrev pub pageEnd : List ℕ → ℕ → ℕ → List ℕ

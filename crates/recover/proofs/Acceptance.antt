@@ -1,21 +1,21 @@
 -- Demand 3's last sentence: a log that our writer finished, its buckets inside the table, is accepted under its own sync number with one
 -- hash per update; and the places where replay leaves the image. Assumes nothing.
-use mathlib.Core.Path.{_≡_, refl, sym, ap, ap₂, _∙_, subst}
-use mathlib.Core.Bool.{Bool, true, false, cond}
-use mathlib.Core.List.{List, [], _∷_, _++_}
+use mathlib.Core.Path.{_≡_, refl, ap, ap₂, _∙_}
+use mathlib.Core.Bool.{Bool, true, cond}
+use mathlib.Core.List.{List}
 use Prim.Native.Nat.{ℕ, _+_, _^_, _<_}
 use native.Mathlib.Omega.{arith}
 use lib.Dec.{eqb}
-use lib.ListN.{length, getD, take, replicate}
+use lib.ListN.{length, take}
 use borrow.Author.Tests.{eq-eqb, ne-eqb}
 use Rattle.answers.specs.Answers.{Answer, given, refused}
 use Rattle.ht_file.specs.Places.{imageFits}
-use Rattle.wal.specs.Log.{Entry, clear, recordsOf, startSize, finishedLength}
-use Rattle.wal.specs.Reader.{startOf, Reading, readLog}
+use Rattle.wal.specs.Log.{Entry, recordsOf, startSize, finishedLength}
+use Rattle.wal.specs.Reader.{startOf, Reading}
 use Rattle.wal.specs.Writer.{finishLog}
 use Rattle.wal.specs.Run.{Run, logOf}
 use Rattle.wal.specs.declared.Writer.{Writer}
-use Rattle.wal.proofs.RoundTrip.{AllWellFormed, log-length, start-back, entries-back, Made, run-made, finished-log}
+use Rattle.wal.proofs.RoundTrip.{AllWellFormed, log-length, start-back, entries-back, run-made, finished-log}
 use Rattle.recover.specs.Places.{withHashes, replayed}
 use Rattle.recover.specs.Replay.{Did, nothing, stale, applied, allInside, updatesIn, checkAnswer, afterStart, replayAnswer, replayImage, imageBy, stepsOf, hashesFit, checkOf, replayTests}
 

@@ -1,22 +1,19 @@
 -- The check of a whole log, entry by entry: what is left of the log answers what the whole does. Assumes nothing.
-use mathlib.Core.Path.{_≡_, refl, sym, ap, ap₂, _∙_, subst}
+use mathlib.Core.Path.{_≡_, refl, sym, ap, ap₂, _∙_}
 use mathlib.Core.Logic.{_⊎_, ⊎-elim}
-use mathlib.Core.Bool.{Bool, true, false, cond, _&&_}
+use mathlib.Core.Bool.{Bool, cond, _&&_}
 use mathlib.Core.List.{List, [], _∷_}
 use Prim.Native.Nat.{ℕ, _+_, _*_, _≤_, _<_, zero-le}
 use native.Mathlib.Nat.{zero-add, add-assoc}
 use native.Mathlib.Omega.{arith}
-use lib.Dec.{ltb, eqb}
-use lib.ListN.{length}
 use borrow.Author.Tests.{lt-ltb, le-ltb}
 use types.Run.{OneOf}
 use denote.Enum.Declared.{tagOf}
 use Rattle.answers.specs.Answers.{Answer, given, refused}
 use Rattle.answers.specs.Refusals.{numberOf}
 use Rattle.blocks.specs.Blocks.{le, block}
-use Rattle.page_diff.specs.Diff.{countOf}
 use Rattle.wal.specs.Log.{Entry, clear, update, startSize}
-use Rattle.wal.specs.Reader.{diffAt, nodesFrom, updateOf, Next, next, ended, stopped, nextAt, Reading, stopAt, andThen, readFrom, readLog}
+use Rattle.wal.specs.Reader.{diffAt, nodesFrom, updateOf, next, nextAt, Reading, stopAt, andThen, readFrom, readLog}
 use Rattle.wal_read.specs.Head.{headOf, headSaid}
 use Rattle.wal_read.specs.declared.Head.{Head}
 use Rattle.wal_read.specs.declared.Head.the-variants as head

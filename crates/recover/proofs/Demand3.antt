@@ -1,14 +1,12 @@
 -- Demand 3: replay from the start, from the table or from whatever stops left of it, ends in one and the same image: each named place has
 -- the last value that the log gives it, each other byte is the table's. Assumes nothing.
 use mathlib.Core.Path.{_≡_, refl, sym, ap, ap₂, _∙_, subst}
-use mathlib.Core.Logic.{_⊎_, inl, inr, ⊎-elim}
-use mathlib.Core.Bool.{Bool, true, false, cond, _&&_, _||_, true≢false, or-false}
+use mathlib.Core.Logic.{_⊎_, ⊎-elim}
+use mathlib.Core.Bool.{Bool, true, false, cond, _||_, true≢false, or-false}
 use mathlib.Core.List.{List, [], _∷_, _++_}
 use Prim.Native.Nat.{ℕ, zero, suc, _+_, _<_}
-use native.Mathlib.Omega.{arith}
 use lib.Dec.{eqb}
 use lib.ListN.{length, getD, take}
-use Rattle.blocks.specs.Blocks.{tabulate}
 use Rattle.blocks.proofs.Laws.{tabulate-length, tabulate-getD, tabulate-is}
 use Rattle.wal.specs.Log.{clear}
 use Rattle.recover.specs.Places.{Step, entryNames, names, gives, namedIn, valueAt, replayed, stepped}

@@ -17,7 +17,7 @@ use Rattle.ht_file.specs.Places.{imageFits}
 use Rattle.ht_file.proofs.Laws.{both-hold}
 use Rattle.page_diff.specs.Diff.{digit, marked, slotsBelow}
 use Rattle.wal.specs.Log.{Entry, clear, update, recordOf, recordsOf}
-use Rattle.wal.specs.Reader.{Reading, startOf, nextAt, readIn, readBy}
+use Rattle.wal.specs.Reader.{Reading, startOf, nextAt, readBy}
 use Rattle.wal.specs.Run.{logOf}
 use Rattle.wal.proofs.RoundTrip.{AllWellFormed, none, more, log-length, start-back, entries-back}
 use Rattle.recover.specs.Places.{Step, withHashes, names, gives, replayed, valueAt, namedIn, entryNames, entryGives}

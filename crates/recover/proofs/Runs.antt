@@ -2,25 +2,24 @@
 -- and the second reading does not refuse. Assumes nothing.
 use mathlib.Core.Path.{_≡_, refl, sym, ap, ap₂, _∙_, subst}
 use mathlib.Core.Logic.{_⊎_, ⊎-elim}
-use mathlib.Core.Bool.{Bool, true, false, cond, _&&_, true≢false}
+use mathlib.Core.Bool.{Bool, true, false, cond}
 use mathlib.Core.List.{List, [], _∷_, _++_, append-nil}
-use Prim.Native.Nat.{ℕ, suc, _+_, _*_, _≤_, _<_, zero-le}
+use Prim.Native.Nat.{ℕ, suc, _+_, _≤_, _<_, zero-le}
 use native.Mathlib.Numerals.{add-one}
 use native.Mathlib.Omega.{arith}
-use lib.Dec.{ltb, eqb}
+use lib.Dec.{ltb}
 use lib.ListN.{length, getD, take, drop, take-append-drop}
 use lib.Seq.{take-add, drop-drop, getD-drop}
 use borrow.Author.Tests.{ltb-true}
 use types.Run.{OneOf}
 use denote.Enum.Declared.{tagOf}
 use Rattle.answers.specs.Answers.{Answer, given, refused, accepted}
-use Rattle.answers.specs.Refusals.{numberOf}
 use Rattle.ht_file.specs.Places.{imageFits}
 use Rattle.ht_file.proofs.Laws.{both-hold}
 use Rattle.wal.specs.Log.{Entry, clear, update, startSize}
 use Rattle.wal.specs.Reader.{Next, next, ended, stopped, nextAt, Reading, readFrom, readLog}
-use Rattle.wal_read.proofs.ReadLaws.{Moved, moves, read-entry, read-end, read-stop}
-use Rattle.recover.specs.Places.{Step, withHashes, entryGives, names, gives, replayed, stepped}
+use Rattle.wal_read.proofs.ReadLaws.{moves, read-entry, read-end, read-stop}
+use Rattle.recover.specs.Places.{Step, withHashes, entryGives, replayed, stepped}
 use Rattle.recover.specs.Replay.{bucketOf, allInside, oneUpdate, updatesIn, afterEntries, checkAnswer, stepsOf, Went, cleared, updated, atEnd, wentTo, stepAnswer, stepImage, steppedSaid, hashesFit, checkOf}
 use Rattle.recover.specs.Calls.{Stand, movedBy, called}
 use Rattle.recover.specs.declared.Stepped.{Stepped}

@@ -1,13 +1,13 @@
 -- One entry applied: what its step answers, and that the bytes written are those of the definition. Assumes nothing.
-use mathlib.Core.Path.{_≡_, refl, sym, ap, ap₂, _∙_, subst}
+use mathlib.Core.Path.{_≡_, refl, sym, ap, ap₂, _∙_}
 use mathlib.Core.Logic.{_⊎_, ⊎-elim}
 use mathlib.Core.Bool.{Bool, true, false, cond, _&&_, _||_}
-use mathlib.Core.List.{List, [], _∷_, _++_}
-use Prim.Native.Nat.{ℕ, _+_, _-_, _*_, _/_, _≤_, _<_}
+use mathlib.Core.List.{List, [], _∷_}
+use Prim.Native.Nat.{ℕ, _+_, _-_, _≤_, _<_}
 use native.Mathlib.Nat.{lt-of-not-le}
 use native.Mathlib.Decide.{decLe, ℕ-discrete}
 use native.Mathlib.Omega.{arith}
-use lib.Dec.{eqb, leb, ltb}
+use lib.Dec.{eqb, ltb}
 use lib.ListN.{length, getD, set, take, drop, length-set}
 use lib.Seq.{getD-set-same, getD-set-other, getD-take, getD-drop}
 use borrow.Author.Tests.{eq-eqb, ne-eqb, le-leb, lt-leb, lt-ltb, le-ltb}
@@ -15,10 +15,9 @@ use types.Run.{OneOf}
 use denote.Enum.Declared.{tagOf}
 use Rattle.answers.specs.Answers.{Answer, given, refused, accepted}
 use Rattle.answers.specs.Refusals.{numberOf}
-use Rattle.blocks.specs.Blocks.{put, tabulate}
+use Rattle.blocks.specs.Blocks.{put}
 use Rattle.blocks.proofs.Laws.{put-in, put-left, put-right, put-length, tabulate-length, tabulate-getD, tabulate-is}
 use Rattle.ht_file.specs.Places.{imageFits, imageLength, pageStart}
-use Rattle.ht_file.proofs.Laws.{image-fits-facts}
 use Rattle.meta_map.specs.Tags.{fullTag}
 use Rattle.page_diff.specs.Diff.{marked}
 use Rattle.wal.specs.Log.{Entry, clear, update}
@@ -29,7 +28,7 @@ use Rattle.wal_read.specs.declared.Head.the-variants as head
 use Rattle.wal_read.proofs.Head as HeadT
 use Rattle.wal_read.proofs.ReadLaws.{head-end, head-stop}
 use Rattle.recover.specs.Places.{Step, entryNames, entryGives, names, gives, inPage, pageNamed, pageGives, pageAfter, stepped}
-use Rattle.recover.specs.Replay.{bucketOf, Went, cleared, updated, atEnd, wentTo, byNext, stepAnswer, stepBy, stepImage}
+use Rattle.recover.specs.Replay.{bucketOf, Went, wentTo, byNext, stepAnswer, stepBy, stepImage}
 use Rattle.recover.specs.InnerStops.{stepStop}
 
 -- ---- the answer, test by test

@@ -1,12 +1,12 @@
 -- Where the reading of a log stops: what an answer that is neither a clear nor an update says. Assumes nothing.
-use mathlib.Core.Path.{_≡_, refl, sym, ap, _∙_}
+use mathlib.Core.Path.{_≡_, refl}
 use mathlib.Core.Logic.{_⊎_, ⊎-elim}
 use mathlib.Core.List.{[], _∷_}
 use Prim.Native.Nat.{ℕ}
 use native.Mathlib.Omega.{arith}
 use types.Run.{OneOf}
 use denote.Enum.Declared.{tagOf}
-use Rattle.answers.specs.Answers.{Answer, given, refused}
+use Rattle.answers.specs.Answers.{given}
 use Rattle.wal_read.specs.Head.{headSaid}
 use Rattle.wal_read.specs.declared.Head.{Head}
 use Rattle.wal_read.specs.declared.Head.the-variants as head

@@ -1,29 +1,28 @@
 -- What is true of the new image after the first k old buckets: each full one has its page in a bucket of its own, under the tag of its hash
 -- and where its path leads; every other byte is zero. Assumes nothing.
-use mathlib.Core.Path.{_≡_, refl, sym, ap, ap₂, _∙_, subst}
+use mathlib.Core.Path.{_≡_, refl, sym, ap, _∙_, subst}
 use mathlib.Core.Bool.{Bool, true, false, true≢false, cond}
-use mathlib.Core.List.{List, [], _∷_}
+use mathlib.Core.List.{List}
 use mathlib.Core.Logic.{_⊎_, inl, inr}
 use Prim.Native.Nat.{ℕ, zero, suc, _+_, _*_, _≤_, _<_}
 use native.Mathlib.Decide.{ℕ-discrete}
 use native.Mathlib.Numerals.{add-one}
 use native.Mathlib.Omega.{arith}
 use lib.Dec.{eqb}
-use lib.ListN.{length, getD, set, take, replicate, length-replicate}
+use lib.ListN.{length, getD, set, replicate, length-replicate}
 use borrow.Author.Tests.{eq-eqb, ne-eqb}
 use Rattle.answers.specs.Answers.{Answer, given, refused}
 use Rattle.answers.proofs.Laws.{given-one}
 use Rattle.blocks.specs.Blocks.{put}
 use Rattle.blocks.proofs.Laws.{block-length}
-use Rattle.ht_file.specs.Places.{countAllowed, tagsLength, imageLength, imageFits, pageStart, tagsOf}
-use Rattle.ht_file.proofs.Laws.{allowed-bounds, image-fits-facts}
+use Rattle.ht_file.specs.Places.{tagsLength, imageLength, imageFits, pageStart, tagsOf}
 use Rattle.meta_map.specs.Tags.{full, fullTag, one, countOf, isFull}
 use Rattle.meta_map.proofs.Laws.{full-tag-not-empty, count-suc}
 use Rattle.probe.specs.Path.{visit, isFree, allocating}
 use Rattle.probe.proofs.Visits.{visit-below}
 use Rattle.probe.proofs.Promises.{AllocatedAt, allocated-bucket}
 use Rattle.probe.specs.declared.Limit.{Limit}
-use Rattle.rehash.specs.Growth.{pageAt, stored, zeroed, bucketMoved, grownTo}
+use Rattle.rehash.specs.Growth.{pageAt, stored, zeroed, grownTo}
 use Rattle.rehash.proofs.Moves.{allocation-is, grown-none, grown-next, grown-stop}
 use Rattle.rehash.proofs.Stores.{full-not-free, free-not-full, tag-of, store-long, store-tag, store-tag-other, store-page, store-page-other, store-count, zero-at, zero-page, none-full}
 

@@ -1,18 +1,17 @@
 -- A marker's bytes: the first eight are the magic exactly if they are its number; what is written is read again. Assumes nothing.
-use mathlib.Core.Path.{_≡_, refl, sym, ap, ap₂, _∙_}
-use mathlib.Core.Bool.{Bool, true, false, true≢false, cond}
-use mathlib.Core.List.{List, [], _∷_, _++_}
-use Prim.Native.Nat.{ℕ, _+_, _^_, _≤_, _<_}
+use mathlib.Core.Path.{_≡_, refl, sym, ap, _∙_}
+use mathlib.Core.Bool.{Bool, true, false}
+use mathlib.Core.List.{List}
+use Prim.Native.Nat.{ℕ, _^_, _<_}
 use native.Mathlib.Omega.{arith}
-use lib.Dec.{leb, eqb}
-use lib.ListN.{length, take, drop}
-use borrow.Author.Tests.{le-leb, lt-leb, eq-eqb, ne-eqb}
-use Rattle.answers.specs.Answers.{Answer, given, refused}
-use Rattle.blocks.specs.Blocks.{le, bytesOf, block}
-use Rattle.blocks.proofs.Laws.{AllBytes, block-at, bytesOf-block, le-bytesOf, bytes-length}
-use Rattle.probe.specs.Path.{sameBytes}
-use Rattle.probe.proofs.Bytes.{same-equal, equal-same}
-use Rattle.rehash.specs.Marker.{magic, marker, Counts, countsOf, readAnswer, writeAnswer, writtenMarker}
+use lib.Dec.{leb}
+use lib.ListN.{length, take}
+use borrow.Author.Tests.{lt-leb, eq-eqb, ne-eqb}
+use Rattle.answers.specs.Answers.{given, refused}
+use Rattle.blocks.specs.Blocks.{le, bytesOf, block, sameBytes}
+use Rattle.blocks.proofs.Laws.{AllBytes, block-at, bytesOf-block, le-bytesOf}
+use Rattle.blocks.proofs.Same.{same-equal, equal-same}
+use Rattle.rehash.specs.Marker.{magic, marker, countsOf, readAnswer, writtenMarker}
 
 -- the magic as a number
 abbrev pub magicNumber : ℕ

@@ -2,7 +2,7 @@
 use mathlib.Core.Path.{_≡_, refl, sym, ap, ap₂, _∙_}
 use Prim.Native.Nat.{ℕ}
 use native.Mathlib.Omega.{arith}
-use Rattle.answers.specs.Answers.{Answer, given, refused, outcomeSaid}
+use Rattle.answers.specs.Answers.{outcomeSaid}
 use Rattle.answers.specs.Refusals.{numberOf}
 use Rattle.answers.proofs.Laws.{refusal-one, given-refused, refused-one, given-one, outcome-one}
 use Rattle.rehash.specs.Marker.{Counts, markerSaid, writeAnswer, writtenMarker}

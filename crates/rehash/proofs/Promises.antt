@@ -1,27 +1,27 @@
 -- What a user of growth relies on: no page is lost or doubled, each is found by its hash and id, and a refusal leaves the new image either all
 -- zero or as it was. Assumes nothing.
 use mathlib.Core.Path.{_≡_, refl, sym, ap, ap₂, _∙_, subst}
-use mathlib.Core.Bool.{Bool, true, false, true≢false, cond, _&&_}
+use mathlib.Core.Bool.{Bool, true, false, cond, _&&_}
 use mathlib.Core.List.{List}
 use mathlib.Core.Logic.{_⊎_, inl, inr, ⊎-elim}
-use Prim.Native.Nat.{ℕ, zero, suc, _+_, _*_, _≤_, _<_}
+use Prim.Native.Nat.{ℕ, zero, suc, _≤_, _<_}
 use native.Mathlib.Omega.{arith}
 use native.Mathlib.Numerals.{add-one}
 use lib.Dec.{ltb, eqb}
-use lib.ListN.{length, getD, take, drop, length-replicate}
+use lib.ListN.{length, getD, take, drop}
 use borrow.Author.Tests.{lt-ltb, le-ltb, ltb-true, ltb-false, eqb-true, eqb-false, eq-eqb}
 use Rattle.answers.specs.Answers.{Answer, given, refused}
 use Rattle.answers.proofs.Laws.{given-refused, refused-one}
-use Rattle.ht_file.specs.Places.{countAllowed, tagsLength, imageLength, imageFits, pageStart, tagsOf}
+use Rattle.ht_file.specs.Places.{countAllowed, imageLength, imageFits, tagsOf}
 use Rattle.ht_file.proofs.Laws.{both-hold, allowed-bounds}
-use Rattle.meta_map.specs.Tags.{full, fullTag, countOf, isFull}
+use Rattle.meta_map.specs.Tags.{full, countOf, isFull}
 use Rattle.meta_map.proofs.Laws.{full-tag-not-empty}
 use Rattle.probe.specs.Path.{visit, allocating, pageEnd, foundAt, lookupAnswer}
 use Rattle.probe.proofs.Visits.{visit-below}
 use Rattle.probe.proofs.Allocating.{refused-numbers}
 use Rattle.probe.proofs.Promises.{HasPage, found-by}
 use Rattle.probe.specs.declared.Limit.{Limit}
-use Rattle.rehash.specs.Growth.{pageAt, stored, zeroed, bucketMoved, grownTo, copied, Growth, done, nothingToDo, lengthsFit, endOf, growthAnswer, imageOr, goesOn, growthImage}
+use Rattle.rehash.specs.Growth.{pageAt, stored, zeroed, grownTo, copied, Growth, done, nothingToDo, lengthsFit, endOf, growthAnswer, imageOr, growthImage}
 use Rattle.rehash.proofs.Moves.{grown-none, grown-next, grown-stop}
 use Rattle.rehash.proofs.Stores.{page-ends}
 use Rattle.rehash.proofs.Carry.{Moved, Untouched, Carried, carried}

@@ -1,18 +1,18 @@
 -- A page stored in a bucket of an image: the tags and pages afterwards. Assumes nothing.
 use mathlib.Core.Path.{_≡_, refl, sym, ap, ap₂, _∙_}
-use mathlib.Core.Bool.{Bool, true, false, true≢false, _||_}
-use mathlib.Core.List.{List, [], _∷_}
+use mathlib.Core.Bool.{true, false, true≢false, _||_}
+use mathlib.Core.List.{List}
 use mathlib.Core.Logic.{_⊎_, inl, inr}
-use Prim.Native.Nat.{ℕ, zero, suc, _+_, _*_, _≤_, _<_}
-use native.Mathlib.Decide.{ℕ-discrete, decLt}
+use Prim.Native.Nat.{ℕ, zero, suc, _+_, _≤_, _<_}
+use native.Mathlib.Decide.{decLt}
 use native.Mathlib.Omega.{arith}
 use lib.ListN.{length, getD, set, take, drop, replicate, length-set, length-drop, length-replicate, getD-replicate}
 use lib.Seq.{getD-set-same, getD-set-other, getD-take, getD-drop, length-take-le, ext-getD}
-use Rattle.blocks.specs.Blocks.{block, put}
+use Rattle.blocks.specs.Blocks.{put}
 use Rattle.blocks.proofs.Laws.{put-length, put-left, block-length, block-getD, block-same, block-put-sized, block-put-apart}
-use Rattle.ht_file.specs.Places.{tagPages, tagsLength, imageLength, pageStart, tagsOf}
+use Rattle.ht_file.specs.Places.{tagsLength, imageLength, pageStart, tagsOf}
 use Rattle.meta_map.specs.Tags.{Kind, empty, tombstone, full, other, kindOf, isKind, fullTag, one, countOf, isFull}
-use Rattle.meta_map.proofs.Laws.{full-tag-kind, full-tag-not-empty, full-tag-not-tombstone, kind-full, count-agree, count-set}
+use Rattle.meta_map.proofs.Laws.{full-tag-kind, full-tag-not-empty, full-tag-not-tombstone, count-agree, count-set}
 use Rattle.probe.specs.Path.{isFree, pageEnd}
 use Rattle.probe.proofs.Tests.{free-not}
 use Rattle.rehash.specs.Growth.{pageAt, zeroed}

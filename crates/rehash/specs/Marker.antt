@@ -6,8 +6,7 @@ use lib.Dec.{leb, eqb}
 use lib.ListN.{length, replicate, take}
 use Rattle.answers.specs.Answers.{Answer, given, refused}
 use Rattle.answers.specs.Refusals.{numberOf}
-use Rattle.blocks.specs.Blocks.{le, bytesOf, block}
-use Rattle.probe.specs.Path.{sameBytes}
+use Rattle.blocks.specs.Blocks.{le, bytesOf, block, sameBytes}
 use Rattle.rehash.specs.declared.MarkerRead.{MarkerRead}
 use Rattle.rehash.specs.declared.MarkerRead.the-variants as read
 

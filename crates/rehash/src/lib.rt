@@ -4,7 +4,7 @@
 ghost use mathlib.Core.Path.{_≡_};
 ghost use mathlib.Core.Bool.{true};
 ghost use Prim.Native.Nat.{_+_, _≤_, _<_};
-ghost use lib.ListN.{length, getD, replicate};
+ghost use lib.ListN.{length};
 ghost use Rattle.answers.specs.Answers.{outcomeSaid};
 ghost use Rattle.blocks.specs.Blocks.{block, put};
 ghost use Rattle.ht_file.specs.Places.{imageFits};

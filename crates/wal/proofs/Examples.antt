@@ -8,7 +8,7 @@ use Rattle.answers.specs.Answers.{given, refused}
 use Rattle.blocks.specs.Blocks.{block, put, flat}
 use Rattle.page_diff.specs.Diff.{marked, slotsBelow}
 use Rattle.wal.specs.Log.{Entry, clear, update, markSize, startRecord, startSize, recordOf, clearSize, updateSize, recordsOf, finishedLength, endRecord}
-use Rattle.wal.specs.Reader.{startOf, next, ended, stopped, nextAt, Reading, readIn, readBy, readLog}
+use Rattle.wal.specs.Reader.{startOf, next, ended, stopped, nextAt, Reading, readBy, readLog}
 use Rattle.wal.specs.Writer.{openAt, beginAnswer, beginLog, beginWriter, clearAnswer, updateAnswer, recordLog, recordWriter, finishAnswer, finishLog, finishWriter}
 use Rattle.wal.specs.Run.{logOf}
 use Rattle.wal.specs.declared.Writer.the-variants.{Fresh, Finished}

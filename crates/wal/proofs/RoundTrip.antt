@@ -9,17 +9,17 @@ use native.Mathlib.Omega.{arith}
 use lib.Dec.{leb, eqb}
 use lib.ListN.{length, getD, take, drop, replicate, length-append, length-replicate}
 use lib.Seq.{take-at}
-use borrow.Author.Tests.{le-leb, lt-leb, leb-true, eq-eqb, ne-eqb}
+use borrow.Author.Tests.{le-leb, leb-true, eq-eqb, ne-eqb}
 use Rattle.answers.specs.Answers.{Answer, given, refused, accepted}
 use Rattle.blocks.specs.Blocks.{le, bytesOf, block, put}
 use Rattle.blocks.proofs.Laws.{bytes-length, le-bytesOf, put-length, put-fits, put-append}
 use Rattle.page_diff.specs.Diff.{countOf, reserved}
 use Rattle.wal.specs.Log.{Entry, clear, update, mark, recordOf, recordsOf, startRecord, startSize, clearSize, updateSize, finishedLength, endRecord}
-use Rattle.wal.specs.Reader.{startOf, Next, next, ended, stopped, nextAt, Reading, stopAt, andThen, readOn, readIn, readBy, readFrom, readLog}
-use Rattle.wal.specs.Writer.{openAt, capacity, position, ifOpen, ifRoom, beginAnswer, beginLog, beginWriter, clearAnswer, updateAnswer, recordLog, recordWriter, finishAnswer, finishLog}
-use Rattle.wal.specs.Run.{Handed, WellFormed, Run, begun, with-clear, with-update, logOf}
+use Rattle.wal.specs.Reader.{startOf, Next, nextAt, Reading, stopAt, andThen, readOn, readIn, readBy, readLog}
+use Rattle.wal.specs.Writer.{openAt, capacity, position, ifOpen, ifRoom, beginAnswer, clearAnswer, updateAnswer, recordLog, recordWriter, finishAnswer, finishLog}
+use Rattle.wal.specs.Run.{WellFormed, Run, begun, with-clear, with-update, logOf}
 use Rattle.wal.specs.declared.Writer.{Writer}
-use Rattle.wal.proofs.Records.{block-in, byte-in, clear-length, update-length, record-length, next-record, next-end}
+use Rattle.wal.proofs.Records.{block-in, clear-length, update-length, record-length, next-record, next-end}
 
 -- every entry is one that a call can hand over
 pub data AllWellFormed : List Entry → Type 0 where

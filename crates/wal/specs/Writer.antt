@@ -1,9 +1,9 @@
 -- 01, 'Writer': what each call answers, and the state and the log it leaves. Assumes nothing.
-use mathlib.Core.Bool.{Bool, true, false, cond}
-use mathlib.Core.List.{List, [], _∷_, _++_}
+use mathlib.Core.Bool.{cond}
+use mathlib.Core.List.{List}
 use Prim.Native.Nat.{ℕ, _+_, _*_, _/_}
 use lib.Dec.{leb, eqb}
-use lib.ListN.{length, take}
+use lib.ListN.{length}
 use Rattle.answers.specs.Answers.{Answer, given, refused, accepted}
 use Rattle.blocks.specs.Blocks.{put}
 use Rattle.page_diff.specs.Diff.{countOf, reserved}

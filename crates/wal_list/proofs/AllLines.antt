@@ -16,7 +16,7 @@ use Rattle.wal.specs.Reader.{Next, next, ended, stopped, startOf, nextAt, Readi
 use Rattle.wal_read.proofs.NextLaws.{start-long, next-past}
 use Rattle.wal_read.proofs.ReadLaws.{moves, clear-moves, update-moves, read-entry, read-end, read-stop}
 use Rattle.wal_list.specs.Lines.{ascii, decimal, startLine, entryLine, refusedLine, sizeOf, entryLines, stopLine, readingLines, startedLines, linesOf}
-use Rattle.wal_list.specs.Shown.{Shown, more, last, started, firstShown, nextShown, shownAt, textOf, on, over, saidOf, lineAnswer}
+use Rattle.wal_list.specs.Shown.{Shown, more, last, started, firstShown, nextShown, shownAt, textOf, on}
 use Rattle.wal_list.proofs.Decimal.{decimal-length}
 use Rattle.wal_list.proofs.ShownLaws.{first-long, first-none, first-start, shown-next}
 

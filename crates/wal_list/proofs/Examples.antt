@@ -12,7 +12,7 @@ use Rattle.blocks.specs.Blocks.{block, put, flat}
 use Rattle.blocks.proofs.Laws.{put-in, put-right}
 use Rattle.page_diff.specs.Diff.{digit, marked, slotsBelow}
 use Rattle.wal.specs.Log.{Entry, clear, update, startRecord, endRecord, recordOf, recordsOf}
-use Rattle.wal.specs.Reader.{startOf, nextAt, clearAt, updateAt, updateOf, nodesFrom, readIn, readBy}
+use Rattle.wal.specs.Reader.{startOf, nextAt, clearAt, updateAt, updateOf, nodesFrom, readBy}
 use Rattle.wal.proofs.Examples.{log}
 use Rattle.wal_list.specs.Lines.{ascii, digitsIn, entryLines, linesOf}
 use Rattle.wal_list.specs.Shown.{Said, on, over, firstShown, shownAt, lineSaid, lineAnswer, lineAfter, linesSize, linesAnswer, linesAfter}

@@ -14,7 +14,7 @@ use Rattle.wal.specs.Reader.{Next, next, ended, stopped, startOf, nextAt}
 use Rattle.wal_read.proofs.NextLaws.{start-long}
 use Rattle.wal_read.proofs.ReadLaws.{moves, clear-moves, update-moves}
 use Rattle.wal_list.specs.Lines.{ascii, decimal, startLine, entryLine, startedLines, most, linesOf}
-use Rattle.wal_list.specs.Shown.{Shown, textOf, nextShown, shownAt}
+use Rattle.wal_list.specs.Shown.{Shown, textOf, shownAt}
 use Rattle.wal_list.proofs.Decimal.{decimal-length, offset-length}
 use Rattle.wal_list.proofs.ShownLaws.{shown-next}
 use Rattle.wal_list.proofs.AllLines.{andOn, linesIn, lines-from, lines-long, lines-none, lines-start, short-field}

@@ -1,17 +1,17 @@
 -- What the promises of a reader's calls add up to: one answer for one reader; a reader set on a log gives that log's start and then its
 -- entries, or the start's refusal; and after the end, or a refusal, the reader is as it was, so it answers the same again. Assumes nothing.
 use mathlib.Core.Path.{_≡_, refl, sym, ap, ap₂, _∙_, subst}
-use mathlib.Core.List.{List, [], _∷_}
+use mathlib.Core.List.{List, _∷_}
 use Prim.Native.Nat.{ℕ}
 use native.Mathlib.Omega.{arith}
 use lib.ListN.{length, replicate}
 use denote.Ref.{RefT, now}
-use Rattle.answers.specs.Answers.{Answer, given, refused, numberSaid}
+use Rattle.answers.specs.Answers.{Answer, refused, numberSaid}
 use Rattle.answers.specs.Refusals.{numberOf}
 use Rattle.answers.specs.declared.Number.{Number}
 use Rattle.answers.proofs.Laws.{number-one}
-use Rattle.wal.specs.Log.{Entry, clear, update, startSize}
-use Rattle.wal.specs.Reader.{Next, next, ended, stopped, startOf, nextAt}
+use Rattle.wal.specs.Log.{clear, update, startSize}
+use Rattle.wal.specs.Reader.{Next, next, ended, stopped, startOf}
 use Rattle.wal_read.specs.Entry.{Kind, ends, refuses, whatOf, whatSaid, nextOf, Taken}
 use Rattle.wal_read.specs.Set.{givesAt, SetOn, Gives, Reads, Over, at-end, at-refusal, Calls, none, call}
 use Rattle.wal_read.specs.declared.What.{What}

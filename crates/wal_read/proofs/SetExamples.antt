@@ -1,5 +1,5 @@
 -- Readers that meet what `Readers` asks: one that stands at the end of its log, and one set on a log without a start. Assumes nothing.
-use mathlib.Core.Path.{_≡_, refl}
+use mathlib.Core.Path.{refl}
 use mathlib.Core.List.{List, [], _∷_, _++_}
 use Prim.Native.Nat.{ℕ}
 use lib.ListN.{replicate}

@@ -1,5 +1,5 @@
 -- The call, in words; the limit is 01's. Assumes nothing.
-use mathlib.Core.Path.{_≡_, sym, ap, _∙_}
+use mathlib.Core.Path.{ap, _∙_}
 use Rattle.probe.specs.declared.Limit.{Limit}
 use Rattle.probe.specs.Path.{allocateAnswer, allocatedTags}
 use Rattle.bitbox.specs.Words.{numberWords}

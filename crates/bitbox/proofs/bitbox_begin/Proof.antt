@@ -1,5 +1,5 @@
 -- The call of the writer that the state says, in words. Assumes nothing.
-use mathlib.Core.Path.{_≡_, sym, ap, _∙_}
+use mathlib.Core.Path.{ap, _∙_}
 use Rattle.answers.specs.Answers.{Answer}
 use Rattle.wal.specs.Writer.{beginAnswer, beginWriter}
 use Rattle.bitbox.specs.Words.{writtenWords}

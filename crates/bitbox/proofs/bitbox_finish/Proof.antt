@@ -1,10 +1,9 @@
 -- The call of the writer that the state says, in words. Assumes nothing.
-use mathlib.Core.Path.{_≡_, sym, ap, _∙_}
+use mathlib.Core.Path.{ap, _∙_}
 use Prim.Native.Nat.{ℕ}
 use Rattle.wal.specs.declared.Writer.{Writer}
 use Rattle.answers.specs.Answers.{Answer}
 use Rattle.wal.specs.Writer.{finishAnswer, finishWriter, finishLog}
-use mathlib.Core.Bool.{Bool}
 use Rattle.bitbox.specs.Words.{finishedWords}
 use borrow.Author.Needs.{needs}
 use Rattle.bitbox.proofs.bitbox_finish.Statement.{statement}

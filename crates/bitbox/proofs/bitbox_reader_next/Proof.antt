@@ -1,5 +1,5 @@
 -- Field by field. Assumes nothing.
-use mathlib.Core.Path.{_≡_, sym, ap, _∙_}
+use mathlib.Core.Path.{ap, _∙_}
 use Rattle.bitbox.specs.Words.{entryRefusal, entryKind, entryBucket}
 use borrow.Author.Needs.{needs}
 use Rattle.bitbox.proofs.bitbox_reader_next.Statement.{statement}

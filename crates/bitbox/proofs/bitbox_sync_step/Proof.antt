@@ -1,5 +1,5 @@
 -- The step of the state that the numbers say, in words. Assumes nothing.
-use mathlib.Core.Path.{_≡_, sym, ap, _∙_}
+use mathlib.Core.Path.{ap, _∙_}
 use Prim.Native.Nat.{ℕ}
 use Rattle.answers.specs.Answers.{Answer}
 use Rattle.sync.specs.Change.{memOf, pageNumber, effectOf, memBy, stateBy}

@@ -1,6 +1,5 @@
 -- The call of the writer that the state says, in words. Assumes nothing.
-use mathlib.Core.Path.{_≡_, sym, ap, _∙_}
-use Prim.Native.Nat.{ℕ}
+use mathlib.Core.Path.{ap, _∙_}
 use Rattle.wal.specs.declared.Writer.{Writer}
 use Rattle.answers.specs.Answers.{Answer}
 use Rattle.wal.specs.Writer.{clearAnswer}

@@ -1,5 +1,5 @@
 -- Only a refusal has a number. Assumes nothing.
-use mathlib.Core.Path.{_≡_, sym, ap, _∙_}
+use mathlib.Core.Path.{sym, ap, _∙_}
 use Rattle.wal_read.specs.declared.What.{What}
 use Rattle.wal_read.specs.Entry.{whatSaid}
 use Rattle.bitbox.specs.Words.{entryRefusal}

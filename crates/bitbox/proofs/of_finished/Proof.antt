@@ -1,5 +1,5 @@
 -- The answer and the state, in words. Assumes nothing.
-use mathlib.Core.Path.{_≡_, sym, ap, _∙_}
+use mathlib.Core.Path.{sym, ap, _∙_}
 use Rattle.answers.specs.Answers.{numberSaid}
 use Rattle.bitbox.specs.Words.{written, numberWords}
 use Rattle.bitbox.specs.declared.Answer.{Answer as Words}

@@ -1,5 +1,5 @@
 -- Field by field. Assumes nothing.
-use mathlib.Core.Path.{_≡_, sym, ap, _∙_}
+use mathlib.Core.Path.{ap}
 use Rattle.bitbox.specs.Words.{stateAs}
 use Rattle.bitbox.specs.declared.WriterState.{WriterState}
 use borrow.Author.Needs.{needs}

@@ -1,5 +1,5 @@
 -- The answer and the state, in words. Assumes nothing.
-use mathlib.Core.Path.{_≡_, sym, ap, _∙_}
+use mathlib.Core.Path.{ap, _∙_}
 use Rattle.sync.specs.Sync.{syncedSaid}
 use Rattle.bitbox.specs.Words.{syncWords}
 use borrow.Author.Needs.{needs}

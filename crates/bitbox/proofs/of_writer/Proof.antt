@@ -1,6 +1,5 @@
 -- By cases of the answer. Assumes nothing.
-use mathlib.Core.Path.{_≡_, sym, ap, _∙_}
-use Prim.Native.Nat.{ℕ}
+use mathlib.Core.Path.{sym, ap}
 use Rattle.wal.specs.declared.Writer.{Writer}
 use Rattle.bitbox.specs.Words.{writerWords}
 use borrow.Author.Needs.{needs}

@@ -1,5 +1,5 @@
 -- The answer and the state, in words. Assumes nothing.
-use mathlib.Core.Path.{_≡_, sym, ap, _∙_}
+use mathlib.Core.Path.{sym, ap, _∙_}
 use Prim.Native.Nat.{ℕ}
 use Rattle.answers.specs.Answers.{outcomeSaid}
 use Rattle.bitbox.specs.Words.{written, refusalOf}

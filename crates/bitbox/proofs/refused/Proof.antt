@@ -1,5 +1,5 @@
 -- The number, in words. Assumes nothing.
-use mathlib.Core.Path.{_≡_, sym, ap, _∙_}
+use mathlib.Core.Path.{ap}
 use Prim.Native.Nat.{ℕ}
 use Rattle.bitbox.specs.Words.{words}
 use borrow.Author.Needs.{needs}

@@ -1,5 +1,5 @@
 -- For an allowed count a page starts where the length says, and for another the count refuses. Assumes nothing.
-use mathlib.Core.Path.{_≡_, sym, ap, _∙_}
+use mathlib.Core.Path.{sym, ap, _∙_}
 use mathlib.Core.Bool.{Bool}
 use borrow.Author.Needs.{needs}
 use Rattle.answers.specs.Answers.{given}

@@ -1,7 +1,7 @@
 -- Few buckets have few pages, so nothing wraps; each answer is the definition's by the tests that led there. Assumes nothing.
 use borrow.Author.Needs.{needs}
 use borrow.Author.Tests.{lt-leb, le-leb}
-use mathlib.Core.Path.{_≡_, sym, ap, _∙_}
+use mathlib.Core.Path.{sym, ap, _∙_}
 use Prim.Native.Nat.{ℕ, _+_, _*_}
 use Rattle.ht_file.proofs.Laws.{start-is}
 use Rattle.ht_file.proofs.page_start.Statement.{statement}

@@ -5,12 +5,13 @@ use Prim.Native.Nat.{ℕ, _+_, _-_, _≤_, _<_}
 use native.Mathlib.Omega.{arith}
 use lib.ListN.{length, getD, take, drop}
 use borrow.Author.Needs.{needs}
+use Rattle.blocks.specs.Blocks.{sameBytes}
 use Rattle.ht_file.proofs.Laws.{image-fits-facts, start-is}
 use Rattle.blocks.proofs.Laws.{block-at}
 use Rattle.ht_file.specs.Places.{imageLength, startIn}
 use mathlib.Core.Logic.{⊎-elim}
-use Rattle.probe.specs.Path.{sameBytes, pageEnd}
-use Rattle.probe.proofs.Bytes.{same-equal}
+use Rattle.probe.specs.Path.{pageEnd}
+use Rattle.blocks.proofs.Same.{same-equal}
 use Rattle.meta_map.specs.Tags.{isFull}
 use Rattle.label_search.specs.Labels.{labelled}
 use Rattle.label_search.proofs.Labels.{label-within, end-read, labelled-none, labelled-next, labelled-by}

@@ -2,7 +2,7 @@
 use lib.ListN.{getD}
 use Prim.Native.Nat.{ℕ}
 use mathlib.Core.List.{List, [], _∷_}
-use mathlib.Core.Path.{_≡_, ap₂}
+use mathlib.Core.Path.{ap₂}
 use borrow.Author.Needs.{needs}
 use Rattle.page_diff.proofs.as_bytes.Statement.{statement}
 use Rattle.page_diff.proofs.as_bytes.Tie as tie

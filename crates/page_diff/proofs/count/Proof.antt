@@ -1,7 +1,7 @@
 -- The ones of both words are the marks of all slots. Assumes nothing.
 use lib.Count.{ones-le}
 use native.Mathlib.Omega.{arith}
-use lib.ListN.{length, getD}
+use lib.ListN.{getD}
 use mir.Syntax.{w64}
 use mir.Val.{Fits}
 use Rattle.page_diff.proofs.SlotLaws.{counted}

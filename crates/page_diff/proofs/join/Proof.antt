@@ -1,5 +1,5 @@
 -- Each word of the join has the marks of either. Assumes nothing.
-use lib.ListN.{length, getD}
+use lib.ListN.{getD}
 use mir.Syntax.{w64}
 use mir.Val.{Fits}
 use Rattle.page_diff.proofs.MarkLaws.{join-words}

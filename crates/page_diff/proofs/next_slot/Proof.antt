@@ -1,7 +1,7 @@
 -- The lowest set digit is the first slot, and the word without it has the other marks. Assumes nothing.
 use lib.Count.{trailing-le}
 use native.Mathlib.Omega.{arith}
-use mathlib.Core.Path.{_≡_, refl, sym, ap, ap₂, _∙_}
+use mathlib.Core.Path.{_≡_, sym}
 use lib.ListN.{length, getD}
 use mir.Syntax.{w64}
 use mir.Val.{Fits}

@@ -1,6 +1,6 @@
 -- `page_diff::nodes_of` meets its contract: a walk of its MIR, by hand. The field is copied whole.
 -- Assumes nothing.
-use mathlib.Core.Path.{_≡_, refl, subst}
+use mathlib.Core.Path.{refl, subst}
 use Prim.Native.Nat.{ℕ}
 use mathlib.Core.List.{List, [], _∷_}
 use lib.Dec.{T as Holds}

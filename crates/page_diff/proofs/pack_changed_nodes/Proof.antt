@@ -1,13 +1,12 @@
 -- Each test answers as the definition does; with both passed the table and the count are the marked slots'. Assumes nothing.
 use Rattle.page_diff.proofs.PackLaws.{pack-length, pack-reserved, pack-given, packed-refused, packed-given}
-use Rattle.page_diff.specs.Pack.{packedBy, tableOf}
+use Rattle.page_diff.specs.Pack.{packedBy}
 use Rattle.page_diff.specs.Diff.{reserved}
 use lib.ListN.{length}
-use native.Mathlib.Omega.{arith}
 use Prim.Native.Nat.{ℕ}
 use mathlib.Core.List.{List}
-use mathlib.Core.Bool.{Bool, true, false}
-use mathlib.Core.Path.{_≡_, refl, sym, ap, ap₂, _∙_}
+use mathlib.Core.Bool.{true, false}
+use mathlib.Core.Path.{_≡_, sym, ap₂, _∙_}
 use borrow.Author.Needs.{needs}
 use Rattle.page_diff.proofs.pack_changed_nodes.Statement.{statement}
 use Rattle.page_diff.proofs.pack_changed_nodes.Tie as tie

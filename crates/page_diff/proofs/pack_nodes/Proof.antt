@@ -1,14 +1,13 @@
 -- At the head of the loop the table has the nodes of the slots that are done; it ends when all are. Assumes nothing.
-use Rattle.page_diff.proofs.PackLaws.{table-none, table-turn, table-end, putUpTo, put-none, put-turn, put-all}
-use Rattle.page_diff.proofs.Walk.{Walk, walk-start, walk-on, walk-at, walk-slot, walk-step, walk-end, plain-count}
+use Rattle.page_diff.proofs.PackLaws.{table-none, table-turn, table-end}
+use Rattle.page_diff.proofs.Walk.{Walk, walk-start, walk-on, walk-at, walk-step, walk-end, plain-count}
 use Rattle.page_diff.specs.Pack.{tableOf}
 use Rattle.page_diff.specs.Diff.{slots, countOf}
-use lib.ListN.{length, getD, set, take}
-use borrow.Author.Needs.{needs}
+use lib.ListN.{set, take}
 use native.Mathlib.Omega.{arith}
-use Prim.Native.Nat.{ℕ, _+_, _-_, _*_, _≤_, _<_}
-use mathlib.Core.List.{List, []}
-use mathlib.Core.Path.{_≡_, refl, sym, ap, _∙_}
+use Prim.Native.Nat.{ℕ, _-_, _<_}
+use mathlib.Core.List.{List}
+use mathlib.Core.Path.{_≡_, ap, _∙_}
 use Rattle.page_diff.proofs.pack_nodes.Statement.{statement}
 use Rattle.page_diff.proofs.pack_nodes.Tie as tie
 

@@ -1,16 +1,12 @@
 -- What is not put is told test by test; else the nodes are put. Assumes nothing.
-use mathlib.Core.Path.{_≡_, sym, ap, _∙_}
-use mathlib.Core.Bool.{true, false, cond}
-use mathlib.Core.List.{List, map}
-use Prim.Native.Nat.{ℕ, _+_, _*_, _≤_, _<_}
+use mathlib.Core.Path.{_≡_, sym, _∙_}
+use mathlib.Core.Bool.{false}
+use mathlib.Core.List.{List}
+use Prim.Native.Nat.{ℕ, _≤_}
 use native.Mathlib.Omega.{arith}
-use lib.ListN.{length}
 use borrow.Author.Needs.{needs}
-use Rattle.blocks.specs.Blocks.{flat}
-use Rattle.blocks.proofs.Laws.{put-short}
-use Rattle.page_diff.specs.Diff.{slots, countOf, reserved}
-use Rattle.page_diff.specs.Pack.{nodeAt, nodesPut}
-use Rattle.page_diff.proofs.Nodes.{page-nodes-length, nodes-plain, nodes-none, nodes-short}
+use Rattle.page_diff.specs.Diff.{countOf, reserved}
+use Rattle.page_diff.proofs.Nodes.{nodes-plain, nodes-none, nodes-short}
 use Rattle.page_diff.proofs.Walk.{plain-count}
 use Rattle.page_diff.proofs.put_page_nodes.Statement.{statement}
 use Rattle.page_diff.proofs.put_page_nodes.Tie as tie

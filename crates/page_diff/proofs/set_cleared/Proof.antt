@@ -1,5 +1,5 @@
 -- Bit 63 of the high word is the mark of a cleared page. Assumes nothing.
-use lib.ListN.{length, getD}
+use lib.ListN.{getD}
 use mir.Syntax.{w64}
 use mir.Val.{Fits}
 use Rattle.page_diff.proofs.MarkLaws.{cleared-words}

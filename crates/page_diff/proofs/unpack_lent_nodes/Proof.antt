@@ -1,11 +1,8 @@
 -- Each test answers as the definition does; with all passed the nodes are put back. Assumes nothing.
 use Rattle.page_diff.proofs.PackLaws.{unpack-length, unpack-reserved, unpack-count, unpack-given, unpacked-refused, unpacked-given}
-use Rattle.page_diff.specs.Diff.{reserved, countOf}
-use lib.ListN.{length}
-use Prim.Native.Nat.{ℕ}
-use mathlib.Core.List.{List}
-use mathlib.Core.Bool.{Bool, true, false}
-use mathlib.Core.Path.{_≡_, refl, sym, ap, ap₂, _∙_}
+use Rattle.page_diff.specs.Diff.{reserved}
+use mathlib.Core.Bool.{true, false}
+use mathlib.Core.Path.{_≡_, sym, _∙_}
 use borrow.Author.Needs.{needs}
 use Rattle.page_diff.proofs.unpack_lent_nodes.Statement.{statement}
 use Rattle.page_diff.proofs.unpack_lent_nodes.Tie as tie

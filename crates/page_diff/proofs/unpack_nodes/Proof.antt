@@ -4,9 +4,8 @@ use Rattle.page_diff.proofs.Walk.{Walk, walk-start, walk-on, walk-slot,
 use Rattle.page_diff.specs.Diff.{slots, countOf}
 use Rattle.blocks.specs.Blocks.{put}
 use lib.ListN.{length, getD}
-use borrow.Author.Needs.{needs}
 use native.Mathlib.Omega.{arith}
-use Prim.Native.Nat.{ℕ, _+_, _-_, _*_, _≤_, _<_}
+use Prim.Native.Nat.{ℕ, _-_, _<_}
 use mathlib.Core.List.{List, []}
 use mathlib.Core.Path.{_≡_, refl, sym, ap, _∙_}
 use Rattle.page_diff.proofs.unpack_nodes.Statement.{statement}

@@ -9,8 +9,8 @@ use lib.ListN.{length, getD, take, drop}
 use lib.Seq.{take-all}
 use borrow.Author.Needs.{needs}
 use borrow.Author.Tests.{eq-eqb, ne-eqb}
-use Rattle.probe.specs.Path.{sameBytes}
-use Rattle.probe.proofs.Bytes.{and-true, and-false, same-at, same-short}
+use Rattle.blocks.specs.Blocks.{sameBytes}
+use Rattle.blocks.proofs.Same.{and-true, and-false, same-at, same-short}
 use Rattle.probe.proofs.ends_in.Statement.{statement}
 use Rattle.probe.proofs.ends_in.Tie as tie
 

@@ -1,7 +1,7 @@
 -- The code's walk stops at each empty visit and at each hit, so no visit that it passes stops a lookup; where a lookup stops the definition
 -- stops. Assumes nothing.
 use mathlib.Core.Path.{_≡_, refl, sym, ap, _∙_}
-use mathlib.Core.Bool.{Bool, true, false, true≢false, _&&_, _||_}
+use mathlib.Core.Bool.{Bool, true, false, _&&_, _||_}
 use mathlib.Core.List.{List}
 use mathlib.Core.Logic.{⊎-elim}
 use Prim.Native.Nat.{ℕ, _+_, _-_, _*_, _/_, _≤_, _<_}
@@ -11,11 +11,12 @@ use borrow.Author.Needs.{needs}
 use borrow.Author.Tests.{eq-eqb, ne-eqb}
 use Rattle.answers.specs.Answers.{given, outcomeSaid}
 use Rattle.answers.specs.Refusals.{numberOf}
+use Rattle.blocks.specs.Blocks.{sameBytes}
 use Rattle.ht_file.specs.Places.{imageFits, pageStart, startIn}
 use Rattle.ht_file.proofs.Laws.{image-fits-facts, start-is, table-fits, table-unfit}
 use Rattle.meta_map.specs.Tags.{fullTag}
 use Rattle.probe.specs.declared.ProbeSequence.{ProbeSequence}
-use Rattle.probe.specs.Path.{isEmpty, isTombstone, isHit, Stop, stopAt, nowhere, stopsProbe, sameBytes, pageEnd, Sought, foundAt, absent, unreached, stopsLookup, lookupStop, lookupSaw, lookingUp, lookupAnswer}
+use Rattle.probe.specs.Path.{isEmpty, isTombstone, isHit, Stop, stopAt, nowhere, stopsProbe, pageEnd, Sought, foundAt, absent, unreached, stopsLookup, lookupStop, lookupSaw, lookingUp, lookupAnswer}
 use Rattle.probe.proofs.Tests.{empty-is, empty-not}
 use Rattle.probe.proofs.Walk.{Walking, walk-start, walk-ready, walk-below, walk-stop, walk-next, walk-met, walk-end}
 use Rattle.probe.proofs.lookup.Statement.{statement}

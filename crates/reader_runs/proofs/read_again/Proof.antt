@@ -1,7 +1,7 @@
 -- `reader_runs::read_again` meets its contract: a walk of its MIR, by hand. A reader that `new` returns is held in a local, which is lent to `read_entry` twice, each time for a lifetime of the call. All that the proof knows of the two is that each meets its contract.
 -- A lifetime of a call is a new atom within the log's own: its token is made of the atom's and half of the log's, and the other half is what `read_entry` asks for the log.
 -- Assumes nothing.
-use mathlib.Core.Path.{_≡_, refl, ap}
+use mathlib.Core.Path.{refl}
 use Prim.Native.Nat.{ℕ}
 use mathlib.Core.List.{List, [], _∷_}
 use lib.ListN.{length}
@@ -11,7 +11,7 @@ use mir.Syntax.{Ty, named, erased}
 use mir.Val.{Val, vptr}
 use mir.Raw.{raw as rawTy}
 use base.Logic.{SProp, ent, sep, emp, via, fst∗, snd∗, exE, id⊢}
-use base.Fml.{GName, Lft, Share, Fml, ftrue, flft, fdead, fres, flent, fat, froom, fsep}
+use base.Fml.{GName, Lft, Share, Fml, ftrue, flft, fdead, flent, fat, froom, fsep}
 use prog.Memory.{Memory}
 use prog.Routine.{Routine}
 use prog.Wp.{Heap, Calls, Loops, WpFn, Tables}
@@ -34,7 +34,7 @@ use denote.Builtin.{u8}
 use denote.Ref.{RefT, NamedLft, MutRef, now}
 use denote.Signature.{plain, namedLft}
 use denote.Slice.{sliceVal, ShrSlice, slice-vals, shr-slice-tells, shr-slice-lawful, shr-slice-copy}
-use denote.Steps.{only, peeks, heard, nothing}
+use denote.Steps.{peeks, heard, nothing}
 use denote.Struct.Laws as LL
 use denote.Triple.Statement.{Contract, Triple}
 use denote.Triple.Call.{calls-at}

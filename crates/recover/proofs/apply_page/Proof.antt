@@ -11,10 +11,9 @@ use Rattle.blocks.specs.Blocks.{block, put, tabulate}
 use borrow.Rule.Slice.PartMut.{putMid}
 use lib.ListN.{length, length-append}
 use native.Mathlib.Omega.{arith}
-use Prim.Native.Nat.{ℕ, _+_, _*_, _≤_}
+use Prim.Native.Nat.{ℕ, _+_}
 use mathlib.Core.List.{List, _++_}
-use mathlib.Core.Bool.{Bool, true, false}
-use mathlib.Core.Path.{_≡_, refl, sym, ap, ap₂, _∙_, subst}
+use mathlib.Core.Path.{_≡_, sym, ap, ap₂, _∙_}
 use borrow.Author.Needs.{needs}
 use Rattle.recover.proofs.apply_page.Statement.{statement}
 use Rattle.recover.proofs.apply_page.Tie as tie

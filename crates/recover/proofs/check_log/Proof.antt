@@ -1,16 +1,14 @@
 -- What is left of the log answers what the whole does; each entry moves the position on. Assumes nothing.
 use Rattle.recover.proofs.Checks.{CheckState, check-start, check-entry, check-outside, check-stop, there-bucket, there-one}
-use Rattle.wal_read.proofs.ReadLaws.{There, head-clear, head-update, Moved, moves}
-use Rattle.wal_read.specs.declared.Head.{Head}
-use Rattle.wal_read.specs.Head.{headOf, headSaid}
-use Rattle.wal.specs.Reader.{Next, next, nextAt, updateOf}
+use Rattle.wal_read.proofs.ReadLaws.{There, head-clear, head-update, moves}
+use Rattle.wal_read.specs.Head.{headSaid}
+use Rattle.wal.specs.Reader.{next, nextAt, updateOf}
 use Rattle.wal.specs.Log.{clear}
-use mathlib.Core.List.{List}
 use lib.ListN.{length}
 use borrow.Author.Needs.{needs}
 use native.Mathlib.Omega.{arith}
 use Prim.Native.Nat.{ℕ, _+_, _-_, _≤_, _<_}
-use mathlib.Core.Path.{_≡_, refl, sym, ap, _∙_, subst}
+use mathlib.Core.Path.{_≡_, sym, ap, _∙_, subst}
 use Rattle.recover.proofs.check_log.Statement.{statement}
 use Rattle.recover.proofs.check_log.Tie as tie
 

@@ -1,17 +1,16 @@
 -- k steps make replay of the first k entries, and at the end that is all of them; the log was checked, so no step refuses.
 -- Assumes nothing.
 use Rattle.recover.proofs.Runs.{Running, run-start, run-long, after-clear, after-update, at-the-end}
-use Rattle.recover.specs.Replay.{cleared, updated, steppedSaid, stepAnswer, stepImage}
-use Rattle.recover.specs.Places.{replayed}
+use Rattle.recover.specs.Replay.{steppedSaid, stepImage}
 use Rattle.ht_file.specs.Places.{imageFits}
 use Rattle.answers.specs.Answers.{given}
 use lib.ListN.{length, getD}
 use borrow.Author.Needs.{needs}
 use native.Mathlib.Omega.{arith}
-use Prim.Native.Nat.{ℕ, suc, _+_, _-_, _≤_, _<_}
+use Prim.Native.Nat.{ℕ, suc, _+_, _-_, _≤_}
 use mathlib.Core.List.{List}
 use mathlib.Core.Bool.{true}
-use mathlib.Core.Path.{_≡_, refl, sym, ap, _∙_, subst}
+use mathlib.Core.Path.{_≡_, sym, ap, _∙_, subst}
 use Rattle.recover.proofs.run.Statement.{statement}
 use Rattle.recover.proofs.run.Tie as tie
 

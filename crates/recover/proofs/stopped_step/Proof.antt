@@ -3,7 +3,7 @@ use Rattle.recover.proofs.Stops.{step-ended}
 use Rattle.recover.specs.InnerStops.{stepStop}
 use Rattle.wal_read.specs.declared.Head.{Head}
 use Rattle.wal_read.specs.Head.{headSaid}
-use mathlib.Core.Path.{sym, ap, _∙_}
+use mathlib.Core.Path.{sym, ap}
 use borrow.Author.Needs.{needs}
 use Rattle.recover.proofs.stopped_step.Statement.{statement}
 use Rattle.recover.proofs.stopped_step.Tie as tie

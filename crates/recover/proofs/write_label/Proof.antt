@@ -4,7 +4,7 @@ use Rattle.blocks.specs.Blocks.{put}
 use native.Mathlib.Omega.{arith}
 use Prim.Native.Nat.{ℕ}
 use mathlib.Core.List.{List}
-use mathlib.Core.Path.{_≡_, sym, ap, _∙_}
+use mathlib.Core.Path.{sym, ap, _∙_}
 use borrow.Author.Needs.{needs}
 use Rattle.recover.proofs.write_label.Statement.{statement}
 use Rattle.recover.proofs.write_label.Tie as tie

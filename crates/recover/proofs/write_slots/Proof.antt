@@ -9,11 +9,10 @@ use Rattle.page_diff.proofs.Walk.{Walk, walk-start, walk-on, walk-slot, walk-st
 use Rattle.page_diff.specs.Diff.{slots, countOf}
 use Rattle.blocks.specs.Blocks.{put}
 use lib.ListN.{length, getD}
-use borrow.Author.Needs.{needs}
 use native.Mathlib.Omega.{arith}
-use Prim.Native.Nat.{ℕ, _+_, _-_, _*_, _≤_, _<_}
-use mathlib.Core.List.{List, []}
-use mathlib.Core.Path.{_≡_, refl, sym, ap, _∙_}
+use Prim.Native.Nat.{ℕ, _+_, _-_, _*_, _<_}
+use mathlib.Core.List.{List}
+use mathlib.Core.Path.{_≡_, sym, ap, _∙_}
 use Rattle.recover.proofs.write_slots.Statement.{statement}
 use Rattle.recover.proofs.write_slots.Tie as tie
 

@@ -1,8 +1,8 @@
 -- By the tests in their order: only where all of them pass is the new image written. Assumes nothing.
-use mathlib.Core.Path.{_≡_, refl, sym, ap, ap₂, _∙_}
+use mathlib.Core.Path.{_≡_, sym, ap, ap₂, _∙_}
 use mathlib.Core.Bool.{Bool, true, false, cond, _&&_}
 use mathlib.Core.List.{List}
-use Prim.Native.Nat.{ℕ, _≤_, _<_}
+use Prim.Native.Nat.{ℕ}
 use native.Mathlib.Omega.{arith}
 use lib.Dec.{ltb, eqb}
 use lib.ListN.{length}
@@ -13,7 +13,7 @@ use Rattle.answers.specs.Refusals.{numberOf}
 use Rattle.ht_file.specs.Places.{countAllowed, imageLength, imageFits}
 use Rattle.ht_file.proofs.Laws.{both-hold, allowed-bounds, image-end, table-fits, table-refused, table-unfit}
 use Rattle.probe.specs.Path.{hitLimit}
-use Rattle.rehash.specs.Growth.{copied, done, nothingToDo, Growth, lengthsFit, endOf, growthAnswer, imageOr, zeroed, goesOn, growthImage}
+use Rattle.rehash.specs.Growth.{copied, done, nothingToDo, Growth, lengthsFit, endOf, growthAnswer, imageOr, zeroed, growthImage}
 use Rattle.rehash.proofs.Moves.{copy-by-lengths}
 use Rattle.rehash.proofs.grow.Statement.{statement}
 use Rattle.rehash.proofs.grow.Tie as tie

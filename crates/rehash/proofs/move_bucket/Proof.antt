@@ -1,11 +1,10 @@
 -- By cases on the old tag and on what allocation answers; the tag is written among the tag pages, so in the image, and then the page is put.
 -- Assumes nothing.
-use mathlib.Core.Path.{_≡_, refl, sym, ap, ap₂, _∙_}
-use mathlib.Core.Bool.{true, false}
+use mathlib.Core.Path.{_≡_, sym, ap, ap₂, _∙_}
 use mathlib.Core.List.{List, _++_}
-use Prim.Native.Nat.{ℕ, _+_, _*_, _≤_, _<_}
+use Prim.Native.Nat.{ℕ, _+_, _≤_, _<_}
 use native.Mathlib.Omega.{arith}
-use lib.ListN.{length, getD, set, take, drop, length-set, take-append-drop}
+use lib.ListN.{length, set, take, drop, length-set, take-append-drop}
 use lib.Seq.{length-take-le}
 use borrow.Author.Needs.{needs}
 use Rattle.answers.specs.Answers.{Answer, given, refused}
@@ -13,10 +12,10 @@ use Rattle.answers.specs.Refusals.{numberOf}
 use Rattle.blocks.specs.Blocks.{block, put}
 use Rattle.ht_file.specs.Places.{tagsLength, tagsOf, imageLength, pageStart}
 use Rattle.ht_file.proofs.Laws.{image-fits-facts, start-is, tags-end}
-use Rattle.meta_map.specs.Tags.{isFull, fullTag}
+use Rattle.meta_map.specs.Tags.{fullTag}
 use Rattle.probe.specs.declared.Limit.{Limit}
 use Rattle.probe.specs.Path.{hitLimit, allocating, allocateAnswer, tagsAfter, allocatedSaid}
-use Rattle.rehash.specs.Growth.{pageAt, stored, bucketMoved, endOf, imageOr}
+use Rattle.rehash.specs.Growth.{pageAt, endOf, imageOr}
 use Rattle.rehash.proofs.Moves.{allocation-is, given-below, tag-set, moved-other, moved-full}
 use Rattle.rehash.proofs.move_bucket.Statement.{statement}
 use Rattle.rehash.proofs.move_bucket.Tie as tie

@@ -1,18 +1,12 @@
 -- By the tests in their order; the first eight bytes are the magic exactly if the number that they are is the magic's. Assumes nothing.
 use mathlib.Core.Path.{_≡_, sym, ap₂, _∙_}
-use mathlib.Core.Bool.{cond}
-use mathlib.Core.List.{List}
-use Prim.Native.Nat.{ℕ, _<_}
 use native.Mathlib.Omega.{arith}
-use lib.Dec.{leb}
-use lib.ListN.{length, getD}
 use borrow.Author.Needs.{needs}
 use borrow.Author.Tests.{le-leb, lt-leb}
-use Rattle.answers.specs.Answers.{Answer, given, refused}
-use Rattle.blocks.specs.Blocks.{le, block}
+use Rattle.answers.specs.Answers.{given}
 use Rattle.blocks.proofs.Laws.{AllBytes}
-use Rattle.rehash.specs.Marker.{Counts, countsOf, readAnswer}
-use Rattle.rehash.proofs.Markers.{magicNumber, magic-is, magic-not, read-short, read-other, read-counts}
+use Rattle.rehash.specs.Marker.{countsOf, readAnswer}
+use Rattle.rehash.proofs.Markers.{magic-is, magic-not, read-short, read-other, read-counts}
 use Rattle.rehash.proofs.read_marker.Statement.{statement}
 use Rattle.rehash.proofs.read_marker.Tie as tie
 

@@ -9,8 +9,7 @@ use lib.Dec.{eqb}
 use lib.ListN.{length, getD, take, drop, length-take, length-drop}
 use lib.Seq.{getD-drop}
 use borrow.Author.Tests.{eqb-true, eq-eqb}
-use Rattle.ht_file.proofs.Laws.{both-hold}
-use Rattle.probe.specs.Path.{sameBytes}
+use Rattle.blocks.specs.Blocks.{sameBytes}
 
 pub and-true : (a : Bool) → (a && true) ≡ a
 and-true true = refl
@@ -20,13 +19,18 @@ pub and-false : (a : Bool) → (a && false) ≡ false
 and-false true = refl
 and-false false = refl
 
+both : (a b : Bool) → (a && b) ≡ true → (a ≡ true) × (b ≡ true)
+both true true e = (refl, refl)
+both true false e = absurd (true≢false (sym e))
+both false b e = absurd (true≢false (sym e))
+
 pub same-equal : (xs ys : List ℕ) → sameBytes xs ys ≡ true → xs ≡ ys
 unfolding sameBytes
 same-equal [] [] e = refl
 same-equal [] (y ∷ ys) e = absurd (true≢false (sym e))
 same-equal (x ∷ xs) [] e = absurd (true≢false (sym e))
 same-equal (x ∷ xs) (y ∷ ys) e =
-    let h = both-hold (eqb x y) (sameBytes xs ys) e in
+    let h = both (eqb x y) (sameBytes xs ys) e in
     ap₂ (λ (a : ℕ) (l : List ℕ). a ∷ l) (eqb-true x y (h .0)) (same-equal xs ys (h .1))
 
 pub equal-same : (xs ys : List ℕ) → xs ≡ ys → sameBytes xs ys ≡ true
