@@ -28,15 +28,15 @@
 extern "C" {
 #endif
 
-#define BITBOX_VERSION "0.2.0"
-#define BITBOX_VERSION_NUMBER 200 /* 10,000 for the first number, 100 for the second */
+#define BITBOX_VERSION "0.3.0"
+#define BITBOX_VERSION_NUMBER 300 /* 10,000 for the first number, 100 for the second */
 
 #define BITBOX_PAGE 4096         /* bytes of a page */
 #define BITBOX_SLOTS 126         /* slots of a page */
 #define BITBOX_NODE 32           /* bytes of a slot's node */
 #define BITBOX_MOST_BUCKETS 1048576
 #define BITBOX_UNSET UINT64_MAX  /* a cell with no bucket yet */
-#define BITBOX_FIRST_ENTRY 5     /* where the first entry stands in a log */
+#define BITBOX_SEED 16           /* bytes of a store's seed, which names it */
 
 /* The refusals. */
 enum {
@@ -64,7 +64,8 @@ enum {
     BITBOX_LABEL_TWICE = 21,     /* two buckets hold a page with the same id */
     BITBOX_TAG_WRONG = 22,       /* a bucket's tag is not its page's */
     BITBOX_EMPTY_FIRST = 23,     /* a page's path meets an empty bucket before its own */
-    BITBOX_NOT_REACHED = 24      /* a page's path never comes to its bucket */
+    BITBOX_NOT_REACHED = 24,     /* a page's path never comes to its bucket */
+    BITBOX_OTHER_STORE = 26      /* a log names another store */
 };
 
 /* The name of a refusal as docs/ANSWERS.md has it, "Done" for 0; "Unknown" for a number that is none. */
@@ -96,6 +97,7 @@ static inline const char *bitbox_refusal_name(uint64_t refusal)
     case BITBOX_TAG_WRONG: return "TagWrong";
     case BITBOX_EMPTY_FIRST: return "EmptyFirst";
     case BITBOX_NOT_REACHED: return "NotReached";
+    case BITBOX_OTHER_STORE: return "OtherStore";
     default: return "Unknown";
     }
 }
@@ -104,7 +106,8 @@ static inline const char *bitbox_refusal_name(uint64_t refusal)
 enum { BITBOX_PROBED_EMPTY = 0, BITBOX_PROBED_TOMBSTONE = 1, BITBOX_PROBED_HIT = 2, BITBOX_PROBED_CLOSED = 3 };
 enum { BITBOX_FOUND_AT = 0, BITBOX_FOUND_ABSENT = 1, BITBOX_FOUND_CLOSED = 2 };
 enum { BITBOX_ENTRY_END = 0, BITBOX_ENTRY_CLEAR = 1, BITBOX_ENTRY_UPDATE = 2 };
-enum { BITBOX_WRITER_FRESH = 0, BITBOX_WRITER_OPEN = 1, BITBOX_WRITER_FINISHED = 2 };
+enum { BITBOX_EDITION_ONE = 1, BITBOX_EDITION_TWO = 2 };
+enum { BITBOX_WRITER_FRESH = 0, BITBOX_WRITER_OPEN_ONE = 1, BITBOX_WRITER_FINISHED = 2, BITBOX_WRITER_OPEN_TWO = 3 };
 enum { BITBOX_KNOWN = 0, BITBOX_FRESH = 1, BITBOX_CELL = 2 };
 enum { BITBOX_REPLAY_NOTHING = 0, BITBOX_REPLAY_STALE = 1, BITBOX_REPLAY_APPLIED = 2 };
 enum { BITBOX_STEP_END = 0, BITBOX_STEP_CLEARED = 1, BITBOX_STEP_UPDATED = 2 };
@@ -194,7 +197,16 @@ typedef struct {
     uint64_t next;
 } bitbox_head;
 
-/* A writer's state: BITBOX_WRITER_..., the position or the finished log's length. A kind above 2 is finished too. */
+/* What a log starts with: its sync number; its edition, where 2 is the second and any other number the first; the
+ * seed of its store, which edition one leaves out. */
+typedef struct {
+    uint32_t sync;
+    uint32_t edition;
+    uint8_t seed[16];
+} bitbox_log_start;
+
+/* A writer's state: BITBOX_WRITER_..., where open tells the edition; the position or the finished log's length. A
+ * kind above 3 is finished too. */
 typedef struct {
     uint64_t kind;
     uint64_t at;
@@ -326,16 +338,23 @@ bitbox_found bitbox_lookup(const uint8_t *image, size_t image_len, size_t n, uin
 /* Takes a bucket: its tag becomes the hash's. 1, 10 or 11. */
 bitbox_answer bitbox_allocate(uint8_t *tags, size_t tags_len, size_t n, uint64_t hash);
 
-/* ---- the log */
+/* ---- the log; edition two, whose start names the store, is the one to write, edition one that of old logs.
+ * `edition` is BITBOX_EDITION_...: 2 is the second, any other number the first */
 
-/* The sync number of a log. 5, 6, 7. */
+/* The sync number of a log of either edition. 5, 6, 7. */
 bitbox_answer bitbox_reader_set(const uint8_t *log, size_t log_len);
-/* The entry at a position. 4, 6, 8. */
-bitbox_entry bitbox_reader_next(const uint8_t *log, size_t log_len, size_t at);
+/* The edition of a log, by its first byte: 2 for 0xB2, else 1. */
+uint32_t bitbox_reader_edition(const uint8_t *log, size_t log_len);
+/* Where the first entry stands in a log: 22 in edition two, else 5. */
+size_t bitbox_reader_first(const uint8_t *log, size_t log_len);
+/* The seed in the start of a log of edition two, bytes 6 to 21; zeros where the log is shorter. */
+void bitbox_reader_seed(const uint8_t *log, size_t log_len, uint8_t seed[16]);
+/* The entry at a position of a log of this edition. 4, 6, 8. */
+bitbox_entry bitbox_reader_next(const uint8_t *log, size_t log_len, size_t at, uint32_t edition);
 /* The same without an update's fields. 4, 6, 8. */
-bitbox_head bitbox_reader_head(const uint8_t *log, size_t log_len, size_t at);
+bitbox_head bitbox_reader_head(const uint8_t *log, size_t log_len, size_t at, uint32_t edition);
 /* Begins a log, in any state. 13. */
-bitbox_written bitbox_begin(uint8_t *log, size_t log_len, bitbox_writer_state w, uint32_t sync_seqn);
+bitbox_written bitbox_begin(uint8_t *log, size_t log_len, bitbox_writer_state w, bitbox_log_start start);
 /* Writes that a bucket is cleared. 12, 13. */
 bitbox_written bitbox_write_clear(uint8_t *log, size_t log_len, bitbox_writer_state w, uint64_t bucket);
 /* Writes that a page is changed; `nodes` points to 126 * 32 bytes, as packed.nodes[0] does. 12, 2, 4, 13. */
@@ -360,16 +379,18 @@ bitbox_step_answer bitbox_sync_step(uint8_t *tags, size_t tags_len, uint8_t *mar
 bitbox_sync_answer bitbox_sync(uint8_t *tags, size_t tags_len, uint8_t *marks, size_t marks_len, uint64_t *cells,
                                size_t cells_len, uint8_t *log, size_t log_len, const uint8_t *pages,
                                size_t pages_len, const bitbox_change *changes, size_t changes_len, size_t n,
-                               bitbox_writer_state w, uint32_t sync_seqn);
+                               bitbox_writer_state w, bitbox_log_start start);
 
 /* ---- replay */
 
-/* A log into an image, with a hash for each update: BITBOX_REPLAY_... 1, 5, 7, an entry's, 2. */
+/* A log of either edition into the image of the store with this seed, with a hash for each update:
+ * BITBOX_REPLAY_... One of edition one names no store: it is taken by its sync number alone. 1, 5, 7, 26, an entry's,
+ * 2. */
 bitbox_answer bitbox_replay(uint8_t *image, size_t image_len, size_t n, const uint8_t *log, size_t log_len,
-                            uint32_t sync_seqn, const uint64_t *hashes, size_t hashes_len);
-/* The entry at a position into an image. 1, 4, 6, 8, 9. */
+                            uint32_t sync_seqn, const uint8_t seed[16], const uint64_t *hashes, size_t hashes_len);
+/* The entry at a position of a log of this edition into an image; no seed is compared. 1, 4, 6, 8, 9. */
 bitbox_stepped bitbox_replay_step(uint8_t *image, size_t image_len, size_t n, const uint8_t *log, size_t log_len,
-                                  size_t at, uint64_t hash);
+                                  uint32_t edition, size_t at, uint64_t hash);
 
 /* ---- growth and audit; `hashes` has one for each (old) bucket */
 

@@ -1,16 +1,18 @@
-//! A quiz show's store through two power cuts, with its files in a temporary folder.
+//! A quiz show's store through two power cuts and an accident, with its files in a temporary folder.
 //!
 //!     show [--seed N] [--rounds N] [--list PROGRAM]
 //!
 //! Forty questions are synced. A second sync changes, adds and clears some; power is cut at a byte of the
 //! table's write-out that chance picks, and again at a byte of the recovery's own. Then the table must be, byte
-//! for byte, that of a store whose power was never cut. Last, a rehearsal's logs are offered to it: a log says of
-//! which sync it is, and not of which store. `--list` names the program that reads off logs. With rounds, each has
-//! the next seed and only their sum is told. Any mismatch ends with status 1.
+//! for byte, that of a store whose power was never cut. Last comes the accident: a rehearsal on a copy of the folder
+//! is at the same sync number, and its log comes to lie beside the recording's table. In the log's first edition it
+//! is taken in, which is shown as a warning; in the second, which the store writes, it is refused. `--list` names the
+//! program that reads off logs. With rounds, each has the next seed and only their sum is told. Any mismatch ends
+//! with status 1.
 
 use bitbox::{
     audit, lookup, page_number, replay, sync, table_length, tag_page, tag_pages, Change, Diff, Entry, EntryRef, Found,
-    Lent, LogWriter, PageId, Reader, Replayed, Synced, Where, Writer, NODE, PAGE, SLOTS, UNSET,
+    Lent, PageId, Reader, Refusal, Replayed, Seed, Start, Synced, Where, Writer, NODE, PAGE, SLOTS, UNSET,
 };
 use mapped::Mapped;
 use std::{
@@ -30,7 +32,7 @@ type Outcome<T> = Result<T, Box<dyn Error>>;
 
 /// The buckets. 97 is prime, so a path comes to 49 of them: one more than are ever full here.
 const BUCKETS: usize = 97;
-/// Questions of the first sync; and what the second changes, adds and clears.
+/// Questions of the first sync; and what the second changes, adds and clears. The third changes as many.
 const OPENING: usize = 40;
 const CHANGED: usize = 12;
 const ADDED: usize = 8;
@@ -38,10 +40,13 @@ const CLEARED: usize = 6;
 /// Where a page has its elided children, and after them its id.
 const ELIDED: usize = PAGE - 40;
 const ID: usize = PAGE - 32;
-/// The syncs of the show, and one of a rehearsal, by their numbers.
+/// The questions that a rehearsal changes.
+const REHEARSED: usize = 20;
+/// The syncs of the show by their numbers, and one that it never comes to.
 const OPENED: u32 = 1;
 const TONIGHT: u32 = 2;
-const REHEARSED: u32 = 7000;
+const TOMORROW: u32 = 3;
+const SOME_DAY: u32 = 7000;
 
 /// A page's hash is the caller's to choose. Here it is FNV-1a, 64 bits, over the 32 bytes of its id.
 fn hash_of(id: &PageId) -> u64 {
@@ -75,6 +80,13 @@ impl Chance {
         bytes.iter_mut().for_each(|byte| *byte = self.next() as u8);
     }
 
+    /// A store's seed. A service takes its 16 bytes from the system; here a run can be had again.
+    fn seed(&mut self) -> Seed {
+        let mut seed = Seed::default();
+        self.fill(&mut seed);
+        seed
+    }
+
     fn shuffle<T>(&mut self, items: &mut [T]) {
         for i in (1..items.len()).rev() {
             items.swap(i, self.below(i + 1));
@@ -83,7 +95,7 @@ impl Chance {
 }
 
 /// What the show wrote, and so what must be found: the pages, and the ids that were cleared.
-#[derive(Default)]
+#[derive(Clone, Default)]
 struct Show {
     pages: BTreeMap<PageId, Vec<u8>>,
     cleared: Vec<PageId>,
@@ -136,10 +148,21 @@ impl Show {
         (0..OPENING).map(|number| self.add(number, chance)).collect()
     }
 
-    /// The second sync's edits, in any order.
-    fn evening(&mut self, chance: &mut Chance) -> Outcome<Vec<Edit>> {
+    /// The ids of all questions, in any order.
+    fn ids(&self, chance: &mut Chance) -> Vec<PageId> {
         let mut ids: Vec<PageId> = self.pages.keys().copied().collect();
         chance.shuffle(&mut ids);
+        ids
+    }
+
+    /// Changes so many questions.
+    fn change_some(&mut self, count: usize, chance: &mut Chance) -> Outcome<Vec<Edit>> {
+        self.ids(chance).into_iter().take(count).map(|id| self.change(id, chance)).collect()
+    }
+
+    /// The second sync's edits, in any order.
+    fn evening(&mut self, chance: &mut Chance) -> Outcome<Vec<Edit>> {
+        let ids = self.ids(chance);
         let mut edits = vec![];
         for id in &ids[..CHANGED] {
             edits.push(self.change(*id, chance)?);
@@ -158,11 +181,10 @@ impl Show {
 /// Pages to write, by their numbers in the table: where a bucket is named twice the last page is its.
 type Pages = BTreeMap<u64, Vec<u8>>;
 
-/// A store's files: the table, the log of a sync that may not be in it yet, and the number of the last sync. The
-/// log has the store's name in its own, since nothing in it says whose it is; a service draws that name by chance.
+/// A store's files: the table; the log of a sync that may not be in it yet; the number of the last sync; and the meta,
+/// which is the count of buckets and the store's seed, by which a log names it.
 struct Store {
     folder: PathBuf,
-    log_name: String,
 }
 
 /// What a recovery has made of the table, in memory so far.
@@ -173,13 +195,40 @@ struct Recovery {
 }
 
 impl Store {
-    fn create(folder: &Path, name: &str) -> Outcome<Store> {
-        let store = Store { folder: folder.join(name), log_name: format!("log-{name}") };
+    fn create(folder: &Path, name: &str, seed: Seed) -> Outcome<Store> {
+        let store = Store { folder: folder.join(name) };
         fs::create_dir(&store.folder)?;
         File::create(store.path("table"))?.set_len(table_length(BUCKETS)?)?;
-        fs::write(store.path(&store.log_name), [])?;
-        fs::write(store.path("number"), 0u32.to_le_bytes())?;
+        store.put_log(&[])?;
+        store.put("number", &0u32.to_le_bytes())?;
+        store.put_seed(seed)?;
         Ok(store)
+    }
+
+    /// A copy that will live on. It has a seed of its own before its first sync, and its log is empty.
+    fn copied(&self, folder: &Path, name: &str, seed: Seed) -> Outcome<Store> {
+        check(self.log()?.is_empty(), || "a store is copied when all is written out".into())?;
+        let copy = Store { folder: folder.join(name) };
+        fs::create_dir(&copy.folder)?;
+        for file in ["table", "number", "log"] {
+            fs::copy(self.path(file), copy.path(file))?;
+        }
+        copy.put_seed(seed)?;
+        Ok(copy)
+    }
+
+    fn put_seed(&self, seed: Seed) -> io::Result<()> {
+        self.put("meta", &[&(BUCKETS as u32).to_le_bytes()[..], &seed].concat())
+    }
+
+    fn seed(&self) -> Outcome<Seed> {
+        let meta = fs::read(self.path("meta"))?;
+        Ok(meta.get(4..).unwrap_or_default().try_into()?)
+    }
+
+    /// What the log of a sync starts with: it is of edition two, and names this store.
+    fn start(&self, number: u32) -> Outcome<Start> {
+        Ok(Start::two(number, self.seed()?))
     }
 
     fn path(&self, name: &str) -> PathBuf {
@@ -192,22 +241,11 @@ impl Store {
     }
 
     fn log(&self) -> io::Result<Vec<u8>> {
-        fs::read(self.path(&self.log_name))
+        fs::read(self.path("log"))
     }
 
     fn put_log(&self, log: &[u8]) -> io::Result<()> {
-        self.put(&self.log_name, log)
-    }
-
-    /// A log that lies here and is not this store's.
-    fn other_log(&self) -> Outcome<Option<String>> {
-        for file in fs::read_dir(&self.folder)? {
-            let name = file?.file_name().to_string_lossy().into_owned();
-            if name.starts_with("log-") && name != self.log_name {
-                return Ok(Some(name));
-            }
-        }
-        Ok(None)
+        self.put("log", log)
     }
 
     /// Makes a file anew, whole or not at all: the bytes are on disk before the file has its name.
@@ -221,7 +259,7 @@ impl Store {
 
     /// A sync up to the point from which nothing can be lost: its log and then its number are on disk. What is
     /// left is to write the answered pages.
-    fn prepare(&self, number: u32, edits: &[Edit]) -> Outcome<(Synced, Pages)> {
+    fn prepare(&self, start: Start, edits: &[Edit]) -> Outcome<(Synced, Pages)> {
         let image = self.table()?;
         let tag_page_count = tag_pages(BUCKETS)? as usize;
         let mut tags = image[..PAGE * tag_page_count].to_vec();
@@ -232,9 +270,9 @@ impl Store {
         let pages: Vec<u8> = edits.iter().flat_map(|e| e.page.iter().copied()).collect();
         let mut log = vec![0; log_room(edits.len())];
         let mut lent = Lent { n: BUCKETS, tags: &mut tags, marks: &mut marks, cells: &mut cells, log: &mut log };
-        let synced = sync(&mut lent, &mut Writer::Fresh, number, &changes, &pages)?;
+        let synced = sync(&mut lent, &mut Writer::Fresh, start, &changes, &pages)?;
         self.put_log(&log[..synced.length])?;
-        self.put("number", &number.to_le_bytes())?;
+        self.put("number", &start.sync_seqn().to_le_bytes())?;
         Ok((synced, to_write(edits, &cells, &tags, &marks)?))
     }
 
@@ -260,13 +298,10 @@ impl Store {
     /// What a service does when it starts: the log is replayed onto the table in memory, and the pages that it
     /// names are what is to be written.
     fn recover(&self) -> Outcome<Recovery> {
-        if let Some(name) = self.other_log()? {
-            return Err(format!("{name} is the log of another store").into());
-        }
         let number = u32::from_le_bytes(fs::read(self.path("number"))?.as_slice().try_into()?);
         let (log, mut image) = (self.log()?, self.table()?);
         let hashes = hashes_of(&log);
-        let answer = replay(&mut image, BUCKETS, &log, number, &hashes)?;
+        let answer = replay(&mut image, BUCKETS, &log, number, &self.seed()?, &hashes)?;
         let numbers = if answer == Replayed::Applied { named(&log)? } else { vec![] };
         let pages = numbers.into_iter().map(|i| (i, image[PAGE * i as usize..][..PAGE].to_vec())).collect();
         Ok(Recovery { answer, hashes: hashes.len(), pages })
@@ -294,7 +329,7 @@ fn cells_for(image: &[u8], edits: &[Edit]) -> Outcome<Vec<u64>> {
 
 /// Bytes that are enough for the log of so many edits: the start, each an update of all slots, and the end.
 fn log_room(edits: usize) -> usize {
-    (5 + edits * (65 + NODE * SLOTS) + 1).next_multiple_of(PAGE)
+    (22 + edits * (66 + NODE * SLOTS) + 2).next_multiple_of(PAGE)
 }
 
 /// What a sync has to write into the table: the pages of its updates, and the tag pages that it marked.
@@ -362,12 +397,28 @@ fn read_off(log: &[u8]) -> Outcome<Vec<String>> {
 
 /// The log of a store as the program reads it off, which must be as the crate's reader does.
 fn listed(store: &Store, program: &Path) -> Outcome<()> {
-    let output = Command::new(program).stdin(File::open(store.path(&store.log_name))?).output()?;
+    let output = Command::new(program).stdin(File::open(store.path("log"))?).output()?;
     let printed = String::from_utf8(output.stdout)?;
     let lines = read_off(&store.log()?)?;
     check(output.status.success() && printed.lines().eq(lines), || {
         format!("{} does not read off the log as the reader does", program.display())
     })
+}
+
+/// The page in a bucket of an image.
+fn page_in(image: &[u8], bucket: u64) -> Outcome<&[u8]> {
+    Ok(&image[PAGE * page_number(BUCKETS, bucket)? as usize..][..PAGE])
+}
+
+/// How many of the edited questions are not in an image as the show wrote them.
+fn lost(image: &[u8], show: &Show, edits: &[Edit]) -> Outcome<usize> {
+    let mut lost = 0;
+    for Edit { id, .. } in edits {
+        let found = lookup(image, BUCKETS, hash_of(id), id)?.bucket();
+        let same = found.map(|bucket| page_in(image, bucket)).transpose()? == show.pages.get(id).map(|page| &page[..]);
+        lost += usize::from(!same);
+    }
+    Ok(lost)
 }
 
 /// Every page of the show is found with its bytes, and none that was cleared.
@@ -377,8 +428,7 @@ fn check_pages(image: &[u8], show: &Show) -> Outcome<()> {
         let Found::At(bucket) = lookup(image, BUCKETS, hash_of(id), id)? else {
             return Err(format!("{} is not found", name(id)).into());
         };
-        let at = PAGE * page_number(BUCKETS, bucket)? as usize;
-        check(image[at..at + PAGE] == page[..], || format!("{} has other bytes than were written", name(id)))?;
+        check(page_in(image, bucket)? == page, || format!("{} has other bytes than were written", name(id)))?;
     }
     for id in &show.cleared {
         let found = lookup(image, BUCKETS, hash_of(id), id)?;
@@ -394,16 +444,6 @@ fn audited(image: &[u8], stored: usize) -> Outcome<String> {
     let passed = audit(image, BUCKETS, &hashes)?;
     check(passed.occupied == stored as u64, || format!("{} full for {stored} pages", passed.occupied))?;
     Ok(format!("{} of {} buckets full, rate {:.3}", passed.occupied, passed.capacity, passed.rate))
-}
-
-/// The log of a rehearsal's sync, which clears the whole table.
-fn rehearsal(number: u32) -> Outcome<Vec<u8>> {
-    let mut memory = vec![0; log_room(BUCKETS)];
-    let mut writer = LogWriter::begin(&mut memory, number)?;
-    for bucket in 0..BUCKETS {
-        writer.write_clear(bucket as u64)?;
-    }
-    Ok(writer.finish()?.to_vec())
 }
 
 /// A folder that goes when the round is over.
@@ -487,56 +527,75 @@ impl Round<'_> {
         Ok(())
     }
 
-    /// What a rehearsal's log does: by another number nothing, by the same number harm, and nothing where the name
-    /// of its file tells whose it is.
-    fn offer_rehearsals(&self, store: &Store, show: &Show, wanted: &[u8]) -> Outcome<()> {
-        store.put_log(&rehearsal(REHEARSED)?)?;
-        let recovery = store.recover()?;
-        check(recovery.answer == Replayed::Stale && recovery.pages.is_empty(), || {
-            format!("a rehearsal's log of another number is {:?}", recovery.answer)
-        })?;
-        self.say(format!("a rehearsal's log of sync {REHEARSED} in place of the show's: stale, nothing is done"));
+    /// The accident: a rehearsal on a copy of the folder is at the recording's sync number, and its log comes to lie
+    /// beside the recording's table. In edition one it is stale by another number, and by the same number it is
+    /// taken; in edition two it is refused.
+    fn accident(&mut self, folder: &Path, store: &Store, show: &mut Show) -> Outcome<()> {
+        let rehearsal = store.copied(folder, "rehearsal", self.chance.seed())?;
+        let rehearsed = show.clone().change_some(REHEARSED, &mut self.chance)?;
+        let recorded = show.change_some(CHANGED, &mut self.chance)?;
+        let (_, pages) = store.prepare(store.start(TOMORROW)?, &recorded)?;
+        store.finish(&pages)?;
+        let (table, named) = (store.table()?.to_vec(), rehearsal.start(TOMORROW)?);
+        self.say(format!(
+            "the folder is copied for a rehearsal, which gets a seed of its own; both come to sync {TOMORROW}"
+        ));
+        let beside = |start: Start| {
+            rehearsal.prepare(start, &rehearsed)?;
+            fs::copy(rehearsal.path("log"), store.path("log"))?;
+            store.recover()
+        };
 
-        store.put_log(&rehearsal(TONIGHT)?)?;
-        let recovery = store.recover()?;
-        check(recovery.answer == Replayed::Applied, || format!("one of the same number is {:?}", recovery.answer))?;
+        let other = beside(Start::one(SOME_DAY))?;
+        check(other.answer == Replayed::Stale && other.pages.is_empty(), || {
+            format!("a rehearsal's log of another number is {:?}", other.answer)
+        })?;
+        self.say("THE ACCIDENT: the rehearsal's log comes to lie beside the recording's table");
+        self.say(format!("    edition one, of sync {SOME_DAY}: stale, nothing is done"));
+
+        let taken = beside(Start::one(TOMORROW))?;
+        check(taken.answer == Replayed::Applied, || format!("one of the same number is {:?}", taken.answer))?;
         let mut image = store.table()?;
-        for (number, page) in &recovery.pages {
+        for (number, page) in &taken.pages {
             image[PAGE * *number as usize..][..PAGE].copy_from_slice(page);
         }
-        let audit = audited(&image, 0)?;
+        let lost = lost(&image, show, &rehearsed)?;
+        check(lost == rehearsed.len(), || format!("{lost} of {REHEARSED} questions are the rehearsal's"))?;
+        let audit = audited(&image, show.pages.len())?;
         self.say(format!(
-            "BEWARE: one of sync {TONIGHT}, the show's own number, is TAKEN: nothing in a log says whose it is"
+            "    edition one, of sync {TOMORROW}: BEWARE, it is TAKEN, for nothing in it says whose it is;"
         ));
-        self.say(format!("    all {} questions would be gone, and the audit passes: {audit}", show.pages.len()));
+        self.say(format!("        {lost} questions would be the rehearsal's, and the audit passes: {audit}"));
 
+        let refused = beside(named).err().ok_or("the log of another store is taken")?;
+        check(refused.downcast_ref() == Some(&Refusal::OtherStore), || format!("it is refused otherwise: {refused}"))?;
+        check(store.table()?[..] == table, || "a rehearsal's log has reached the table".into())?;
+        self.say(format!("    edition two, of sync {TOMORROW}, as this store writes it: refused."));
+        self.say(format!("        {refused}"));
+        self.say(format!("        all {} bytes of the table are as before", table.len()));
+        // The log that belongs here was empty: all had been written out.
         store.put_log(&[])?;
-        store.put("log-rehearsal", &rehearsal(TONIGHT)?)?;
-        let refused = store.recover().err().map(|why| why.to_string()).unwrap_or_default();
-        check(refused.contains("another store"), || "the log of another store is taken".into())?;
-        self.say(format!("so the name of a log's file has the store's: refused, {refused}"));
-        fs::remove_file(store.path("log-rehearsal"))?;
-        check(store.table()?[..] == *wanted, || "a rehearsal's log has reached the table".into())
+        check_pages(&table, show)
     }
 
     /// The whole story; how many bytes the two power cuts had left wrong.
     fn run(&mut self, folder: &Path) -> Outcome<usize> {
-        let store = Store::create(folder, "show")?;
-        let undisturbed = Store::create(folder, "undisturbed")?;
+        let store = Store::create(folder, "show", self.chance.seed())?;
+        let undisturbed = Store::create(folder, "undisturbed", self.chance.seed())?;
         let mut show = Show::default();
 
         let opening = show.opening(&mut self.chance)?;
         let evening = show.evening(&mut self.chance)?;
         for (number, edits) in [(OPENED, &opening), (TONIGHT, &evening)] {
-            let (_, pages) = undisturbed.prepare(number, edits)?;
+            let (_, pages) = undisturbed.prepare(undisturbed.start(number)?, edits)?;
             undisturbed.finish(&pages)?;
         }
         let wanted = undisturbed.table()?;
 
-        let (synced, pages) = store.prepare(OPENED, &opening)?;
+        let (synced, pages) = store.prepare(store.start(OPENED)?, &opening)?;
         store.finish(&pages)?;
         self.say(format!("sync {OPENED}: {OPENING} questions, a log of {} bytes; all written out", synced.length));
-        let (synced, pages) = store.prepare(TONIGHT, &evening)?;
+        let (synced, pages) = store.prepare(store.start(TONIGHT)?, &evening)?;
         check_log(&store.log()?, &evening)?;
         let Synced { occupied, length } = synced;
         self.say(format!("sync {TONIGHT}: {CHANGED} changed, {ADDED} new, {CLEARED} cleared; {occupied} buckets full"));
@@ -549,7 +608,7 @@ impl Round<'_> {
         let pages = self.start(&store)?;
         store.finish(&pages)?;
         self.check_end(&store, &show, &wanted)?;
-        self.offer_rehearsals(&store, &show, &wanted)?;
+        self.accident(folder, &store, &mut show)?;
         Ok(first + second)
     }
 }

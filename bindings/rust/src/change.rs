@@ -5,7 +5,7 @@ use crate::{
     ffi,
     log::{position, PageId, Writer},
     refusal::said,
-    Refusal,
+    Refusal, Start,
 };
 use core::{error::Error, fmt};
 
@@ -147,8 +147,9 @@ impl Error for SyncRefused {
     }
 }
 
-/// Takes a list of changes into the tags, and writes their log. `pages` has the page of each change, in
-/// order; those of clearing changes are not read. The writer is finished afterwards.
+/// Takes a list of changes into the tags, and writes their log. `start` has the sync's number and, as
+/// [`Start::two`] is told it, the store's seed. `pages` has the page of each change, in order; those of clearing
+/// changes are not read. The writer is finished afterwards.
 ///
 /// Refused at a change, it leaves in tags, cells and log what the changes before it did, the log's start with
 /// them; the marks are zeroed but for those of these changes; and the writer is fresh. Tags and cells belong
@@ -165,11 +166,11 @@ impl Error for SyncRefused {
 pub fn sync(
     lent: &mut Lent<'_>,
     writer: &mut Writer,
-    sync_seqn: u32,
+    start: Start,
     changes: &[Change],
     pages: &[u8],
 ) -> Result<Synced, SyncRefused> {
-    let answer = ffi::sync(lent, pages, changes, writer.state(), sync_seqn);
+    let answer = ffi::sync(lent, pages, changes, writer.state(), start.lent());
     *writer = Writer::of(answer.writer);
     match said(answer.refusal) {
         Ok(()) => Ok(Synced { occupied: answer.occupied, length: position(answer.length) }),
@@ -183,7 +184,7 @@ pub fn sync(
 /// The state of a sync that is made step by step.
 #[derive(Clone, Copy, Debug, Default, PartialEq, Eq, Hash)]
 pub struct State {
-    /// The log's writer, which [`Writer::begin`] opens.
+    /// The log's writer, which [`Writer::begin`] opens; it keeps the log's edition.
     pub writer: Writer,
     /// How many buckets are full; [`full_count`](crate::full_count) tells at the start.
     pub occupied: u64,

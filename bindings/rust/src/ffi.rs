@@ -78,7 +78,17 @@ pub(crate) struct Head {
     pub(crate) next: u64,
 }
 
-/// A writer's state: 0 fresh, 1 open at a position, any other finished with a length.
+/// What a log starts with: edition 2 is the second, any other number the first, which leaves the seed out.
+#[repr(C)]
+#[derive(Clone, Copy)]
+pub(crate) struct LogStart {
+    pub(crate) sync: u32,
+    pub(crate) edition: u32,
+    pub(crate) seed: [u8; 16],
+}
+
+/// A writer's state: 0 fresh; open at a position, 1 in edition one, 3 in edition two; any other finished with a
+/// length.
 #[repr(C)]
 #[derive(Clone, Copy)]
 pub(crate) struct WriterState {
@@ -199,18 +209,21 @@ mod library {
         pub(super) fn bitbox_allocate(tags: *mut u8, tags_len: usize, n: usize, hash: u64) -> Answer;
 
         pub(super) fn bitbox_reader_set(log: *const u8, log_len: usize) -> Answer;
-        pub(super) fn bitbox_reader_next(log: *const u8, log_len: usize, at: usize) -> Entry;
-        pub(super) fn bitbox_reader_head(log: *const u8, log_len: usize, at: usize) -> Head;
-        pub(super) fn bitbox_begin(log: *mut u8, log_len: usize, w: WriterState, sync_seqn: u32) -> Written;
+        pub(super) fn bitbox_reader_edition(log: *const u8, log_len: usize) -> u32;
+        pub(super) fn bitbox_reader_first(log: *const u8, log_len: usize) -> usize;
+        pub(super) fn bitbox_reader_seed(log: *const u8, log_len: usize, seed: &mut [u8; 16]);
+        pub(super) fn bitbox_reader_next(log: *const u8, log_len: usize, at: usize, edition: u32) -> Entry;
+        pub(super) fn bitbox_reader_head(log: *const u8, log_len: usize, at: usize, edition: u32) -> Head;
+        pub(super) fn bitbox_begin(log: *mut u8, log_len: usize, w: WriterState, start: LogStart) -> Written;
         pub(super) fn bitbox_write_clear(log: *mut u8, log_len: usize, w: WriterState, bucket: u64) -> Written;
         pub(super) fn bitbox_write_update(log: *mut u8, log_len: usize, w: WriterState, id: &[u8; 32], lo: u64, hi: u64, nodes: &[[u8; 32]; 126], count: usize, elided: &[u8; 8], bucket: u64) -> Written;
         pub(super) fn bitbox_finish(log: *mut u8, log_len: usize, w: WriterState) -> Written;
 
         pub(super) fn bitbox_sync_step(tags: *mut u8, tags_len: usize, marks: *mut u8, marks_len: usize, cells: *mut u64, cells_len: usize, log: *mut u8, log_len: usize, page: *const u8, page_len: usize, c: Change, st: StepState) -> StepAnswer;
-        pub(super) fn bitbox_sync(tags: *mut u8, tags_len: usize, marks: *mut u8, marks_len: usize, cells: *mut u64, cells_len: usize, log: *mut u8, log_len: usize, pages: *const u8, pages_len: usize, changes: *const Change, changes_len: usize, n: usize, w: WriterState, sync_seqn: u32) -> SyncAnswer;
+        pub(super) fn bitbox_sync(tags: *mut u8, tags_len: usize, marks: *mut u8, marks_len: usize, cells: *mut u64, cells_len: usize, log: *mut u8, log_len: usize, pages: *const u8, pages_len: usize, changes: *const Change, changes_len: usize, n: usize, w: WriterState, start: LogStart) -> SyncAnswer;
 
-        pub(super) fn bitbox_replay(image: *mut u8, image_len: usize, n: usize, log: *const u8, log_len: usize, sync_seqn: u32, hashes: *const u64, hashes_len: usize) -> Answer;
-        pub(super) fn bitbox_replay_step(image: *mut u8, image_len: usize, n: usize, log: *const u8, log_len: usize, at: usize, hash: u64) -> Stepped;
+        pub(super) fn bitbox_replay(image: *mut u8, image_len: usize, n: usize, log: *const u8, log_len: usize, sync_seqn: u32, seed: &[u8; 16], hashes: *const u64, hashes_len: usize) -> Answer;
+        pub(super) fn bitbox_replay_step(image: *mut u8, image_len: usize, n: usize, log: *const u8, log_len: usize, edition: u32, at: usize, hash: u64) -> Stepped;
 
         pub(super) fn bitbox_write_marker(old: u32, new: u32) -> MarkerBytes;
         pub(super) fn bitbox_read_marker(bytes: *const u8, bytes_len: usize) -> Marker;
@@ -350,16 +363,30 @@ pub(crate) fn reader_set(log: &[u8]) -> Answer {
     unsafe { library::bitbox_reader_set(log.as_ptr(), log.len()) }
 }
 
-pub(crate) fn reader_next(log: &[u8], at: usize) -> Entry {
-    unsafe { library::bitbox_reader_next(log.as_ptr(), log.len(), at) }
+pub(crate) fn reader_edition(log: &[u8]) -> u32 {
+    unsafe { library::bitbox_reader_edition(log.as_ptr(), log.len()) }
 }
 
-pub(crate) fn reader_head(log: &[u8], at: usize) -> Head {
-    unsafe { library::bitbox_reader_head(log.as_ptr(), log.len(), at) }
+pub(crate) fn reader_first(log: &[u8]) -> usize {
+    unsafe { library::bitbox_reader_first(log.as_ptr(), log.len()) }
 }
 
-pub(crate) fn begin(log: &mut [u8], w: WriterState, sync_seqn: u32) -> Written {
-    unsafe { library::bitbox_begin(log.as_mut_ptr(), log.len(), w, sync_seqn) }
+pub(crate) fn reader_seed(log: &[u8]) -> [u8; 16] {
+    let mut seed = [0; 16];
+    unsafe { library::bitbox_reader_seed(log.as_ptr(), log.len(), &mut seed) };
+    seed
+}
+
+pub(crate) fn reader_next(log: &[u8], at: usize, edition: u32) -> Entry {
+    unsafe { library::bitbox_reader_next(log.as_ptr(), log.len(), at, edition) }
+}
+
+pub(crate) fn reader_head(log: &[u8], at: usize, edition: u32) -> Head {
+    unsafe { library::bitbox_reader_head(log.as_ptr(), log.len(), at, edition) }
+}
+
+pub(crate) fn begin(log: &mut [u8], w: WriterState, start: LogStart) -> Written {
+    unsafe { library::bitbox_begin(log.as_mut_ptr(), log.len(), w, start) }
 }
 
 pub(crate) fn write_clear(log: &mut [u8], w: WriterState, bucket: u64) -> Written {
@@ -409,7 +436,7 @@ pub(crate) fn sync(
     pages: &[u8],
     changes: &[Change],
     w: WriterState,
-    sync_seqn: u32,
+    start: LogStart,
 ) -> SyncAnswer {
     let Lent { n, tags, marks, cells, log } = lent;
     unsafe {
@@ -428,18 +455,27 @@ pub(crate) fn sync(
             changes.len(),
             *n,
             w,
-            sync_seqn,
+            start,
         )
     }
 }
 
-pub(crate) fn replay(image: &mut [u8], n: usize, log: &[u8], sync_seqn: u32, hashes: &[u64]) -> Answer {
+pub(crate) fn replay(
+    image: &mut [u8],
+    n: usize,
+    log: &[u8],
+    sync_seqn: u32,
+    seed: &[u8; 16],
+    hashes: &[u64],
+) -> Answer {
     let (image, len) = (image.as_mut_ptr(), image.len());
-    unsafe { library::bitbox_replay(image, len, n, log.as_ptr(), log.len(), sync_seqn, hashes.as_ptr(), hashes.len()) }
+    let (log, log_len) = (log.as_ptr(), log.len());
+    unsafe { library::bitbox_replay(image, len, n, log, log_len, sync_seqn, seed, hashes.as_ptr(), hashes.len()) }
 }
 
-pub(crate) fn replay_step(image: &mut [u8], n: usize, log: &[u8], at: usize, hash: u64) -> Stepped {
-    unsafe { library::bitbox_replay_step(image.as_mut_ptr(), image.len(), n, log.as_ptr(), log.len(), at, hash) }
+pub(crate) fn replay_step(image: &mut [u8], n: usize, log: &[u8], edition: u32, at: usize, hash: u64) -> Stepped {
+    let (image, len) = (image.as_mut_ptr(), image.len());
+    unsafe { library::bitbox_replay_step(image, len, n, log.as_ptr(), log.len(), edition, at, hash) }
 }
 
 pub(crate) fn write_marker(old: u32, new: u32) -> MarkerBytes {
@@ -492,6 +528,7 @@ mod layout {
         laid_out!(Found: 24, 8; refusal 0, kind 8, bucket 16);
         laid_out!(Entry: 4128, 8; refusal 0, kind 8, bucket 16, next 24, id 32, diff 64, packed 80, elided 4120);
         laid_out!(Head: 40, 8; refusal 0, kind 8, bucket 16, count 24, next 32);
+        laid_out!(LogStart: 24, 4; sync 0, edition 4, seed 8);
         laid_out!(WriterState: 16, 8; kind 0, at 8);
         laid_out!(Written: 32, 8; refusal 0, length 8, writer 16);
         laid_out!(StepState: 32, 8; n 0, writer 8, occupied 24);

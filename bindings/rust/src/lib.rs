@@ -20,12 +20,13 @@
 //! - **Tags** are the tag pages alone, one byte per bucket, as a service keeps them in memory.
 //!   [`probe`], [`allocate`], [`sync`] and the functions of single tags are lent these.
 //! - A **log** is what a sync writes and a replay reads: [`Reader`], [`LogWriter`]. It says which sync it is
-//!   of, by a number, and not of which store.
+//!   of, by a number, and of which store, by the store's [`Seed`]. That is a log of edition two, which
+//!   [`Start::two`] begins. Those of edition one, which may lie there from before, do not name their store.
 //!
 //! The [`guide`] has a sync and a recovery with files from start to end, and what to do about each refusal.
 //!
 //! ```
-//! use bitbox::{sync, Change, Diff, Lent, Where, Writer, PAGE, UNSET};
+//! use bitbox::{sync, Change, Diff, Lent, Start, Where, Writer, PAGE, UNSET};
 //!
 //! # fn main() -> Result<(), Box<dyn std::error::Error>> {
 //! // A table of 8 buckets; one new page, of which slot 3 is set.
@@ -34,9 +35,11 @@
 //! let diff = Diff::default().set_changed(3)?;
 //! let change = Change::new([7; 32], 42, diff, Where::Cell(0));
 //!
+//! // The log of the first sync of the store with this seed, which is drawn by chance when the store is made.
+//! let start = Start::two(1, *b"of one recording");
 //! let mut writer = Writer::Fresh;
 //! let mut lent = Lent { n: 8, tags: &mut tags, marks: &mut marks, cells: &mut cells, log: &mut log };
-//! let synced = sync(&mut lent, &mut writer, 1, &[change], &page)?;
+//! let synced = sync(&mut lent, &mut writer, start, &[change], &page)?;
 //! assert_eq!((synced.occupied, synced.length), (1, PAGE));
 //! assert_eq!(cells, [42 % 8]);
 //! # Ok(())
@@ -66,6 +69,7 @@ mod log;
 mod path;
 mod recover;
 mod refusal;
+mod start;
 mod table;
 mod validate;
 
@@ -74,11 +78,12 @@ pub use diff::{Diff, Node, Packed, NODE, SLOTS};
 pub use growth::{grow, pending, read_marker, write_marker, Grown, Marker, Pending};
 pub use log::{
     read_entry, read_head, see_entry, Elided, Entries, Entry, EntryRef, Head, LogWriter, PageId, Reader, Update,
-    UpdateRef, Writer, FIRST_ENTRY,
+    UpdateRef, Writer,
 };
 pub use path::{allocate, lookup, probe, Found, Probed};
 pub use recover::{replay, replay_step, Replayed, Stepped};
 pub use refusal::Refusal;
+pub use start::{first_entry, Edition, Seed, Start};
 pub use table::{
     full_count, full_tag, hint_empty, hint_not_match, hint_tombstone, is_full, padding_is_empty, page_number, set_full,
     set_tombstone, table_length, tag_page, tag_pages, EMPTY, MOST_BUCKETS, PAGE, TOMBSTONE,

@@ -4,6 +4,7 @@ use crate::{
     diff::{Diff, Node, Packed, NODE},
     ffi,
     refusal::said,
+    start::{first_entry, Edition, Seed, Start},
     Refusal,
 };
 use core::iter::FusedIterator;
@@ -13,9 +14,6 @@ pub type PageId = [u8; 32];
 
 /// A page's elided children: the 8 bytes before its id.
 pub type Elided = [u8; 8];
-
-/// Where the first entry stands in a log, after its start.
-pub const FIRST_ENTRY: usize = 5;
 
 /// A page that was changed, as a log has it.
 #[derive(Clone, Copy, Debug, PartialEq, Eq)]
@@ -59,14 +57,14 @@ impl Entry {
 }
 
 /// The entry that stands at a position of a log, and where the next one stands; after the end stands the
-/// end.
+/// end. [`Edition::of`] and [`first_entry`] tell the log's edition and its first position; a [`Reader`] knows both.
 ///
 /// # Errors
 ///
 /// [`LogCut`](Refusal::LogCut), [`TagUnknown`](Refusal::TagUnknown),
 /// [`DiffReserved`](Refusal::DiffReserved), as the first byte that is wrong has it.
-pub fn read_entry(log: &[u8], at: usize) -> Result<(Entry, usize), Refusal> {
-    let e = ffi::reader_next(log, at);
+pub fn read_entry(log: &[u8], at: usize, edition: Edition) -> Result<(Entry, usize), Refusal> {
+    let e = ffi::reader_next(log, at, edition.number());
     said(e.refusal)?;
     let entry = match e.kind {
         0 => Entry::End,
@@ -106,8 +104,8 @@ pub enum Head {
 /// # Errors
 ///
 /// Those of [`read_entry`].
-pub fn read_head(log: &[u8], at: usize) -> Result<Head, Refusal> {
-    let ffi::Head { refusal, kind, bucket, count, next } = ffi::reader_head(log, at);
+pub fn read_head(log: &[u8], at: usize, edition: Edition) -> Result<Head, Refusal> {
+    let ffi::Head { refusal, kind, bucket, count, next } = ffi::reader_head(log, at, edition.number());
     said(refusal)?;
     let next = position(next);
     Ok(match kind {
@@ -143,9 +141,9 @@ impl<'a> UpdateRef<'a> {
         self.nodes.len() / NODE
     }
 
-    /// The update at a position, of so many nodes; the library has seen that the log holds it.
-    fn at(log: &'a [u8], at: usize, bucket: u64, count: usize) -> Option<UpdateRef<'a>> {
-        let (_mark, rest) = log.get(at..)?.split_first()?;
+    /// The update whose mark begins a slice, of so many nodes; the library has seen that the log holds it.
+    fn of(log: &'a [u8], edition: Edition, bucket: u64, count: usize) -> Option<UpdateRef<'a>> {
+        let (_mark, rest) = log.split_at_checked(edition.mark())?;
         let (id, rest) = rest.split_first_chunk()?;
         let (lo, rest) = rest.split_first_chunk()?;
         let (hi, rest) = rest.split_first_chunk()?;
@@ -185,15 +183,15 @@ impl EntryRef<'_> {
 /// # Errors
 ///
 /// Those of [`read_entry`].
-pub fn see_entry(log: &[u8], at: usize) -> Result<(EntryRef<'_>, usize), Refusal> {
-    match read_head(log, at)? {
+pub fn see_entry(log: &[u8], at: usize, edition: Edition) -> Result<(EntryRef<'_>, usize), Refusal> {
+    match read_head(log, at, edition)? {
         Head::End => Ok((EntryRef::End, at)),
         Head::Clear { bucket, next } => Ok((EntryRef::Clear { bucket }, next)),
         // An update that is answered is in the log.
-        Head::Update { bucket, count, next } => match UpdateRef::at(log, at, bucket, count) {
-            Some(update) => Ok((EntryRef::Update(update), next)),
-            None => Err(Refusal::LogCut),
-        },
+        Head::Update { bucket, count, next } => {
+            let update = log.get(at..).and_then(|log| UpdateRef::of(log, edition, bucket, count));
+            update.map(|update| (EntryRef::Update(update), next)).ok_or(Refusal::LogCut)
+        }
     }
 }
 
@@ -209,16 +207,16 @@ pub(crate) fn position(at: u64) -> usize {
 /// entry.
 ///
 /// ```
-/// use bitbox::{Entry, LogWriter, Reader};
+/// use bitbox::{Entry, LogWriter, Reader, Start};
 ///
 /// # fn main() -> Result<(), bitbox::Refusal> {
-/// let mut memory = [0; 4096];
-/// let mut writer = LogWriter::begin(&mut memory, 7)?;
+/// let (seed, mut memory) = (*b"of one recording", [0; 4096]);
+/// let mut writer = LogWriter::begin(&mut memory, Start::two(7, seed))?;
 /// writer.write_clear(3)?;
 /// let log = writer.finish()?;
 ///
 /// let reader = Reader::new(log)?;
-/// assert_eq!(reader.sync_seqn(), 7);
+/// assert_eq!((reader.sync_seqn(), reader.seed()), (7, Some(seed)));
 /// let entries: Result<Vec<Entry>, _> = reader.collect();
 /// assert_eq!(entries?, [Entry::Clear { bucket: 3 }]);
 /// # Ok(())
@@ -228,12 +226,12 @@ pub(crate) fn position(at: u64) -> usize {
 pub struct Reader<'a> {
     log: &'a [u8],
     at: usize,
-    sync_seqn: u32,
+    start: Start,
     over: bool,
 }
 
 impl<'a> Reader<'a> {
-    /// A reader set on a log: it has read the start.
+    /// A reader set on a log of either edition: it has read the start.
     ///
     /// # Errors
     ///
@@ -244,12 +242,27 @@ impl<'a> Reader<'a> {
         said(answer.refusal)?;
         // A log has the number in four bytes, so it fits.
         let sync_seqn = u32::try_from(answer.value).unwrap_or(u32::MAX);
-        Ok(Reader { log, at: FIRST_ENTRY, sync_seqn, over: false })
+        Ok(Reader { log, at: first_entry(log), start: Start::told(log, sync_seqn), over: false })
+    }
+
+    /// What the log starts with.
+    pub const fn start(&self) -> Start {
+        self.start
     }
 
     /// The sync's number, from the log's start.
     pub const fn sync_seqn(&self) -> u32 {
-        self.sync_seqn
+        self.start.sync_seqn()
+    }
+
+    /// The log's edition.
+    pub const fn edition(&self) -> Edition {
+        self.start.edition()
+    }
+
+    /// The seed of the log's store, from the log's start; none in edition one.
+    pub const fn seed(&self) -> Option<Seed> {
+        self.start.seed()
     }
 
     /// Where the next entry stands.
@@ -263,7 +276,7 @@ impl<'a> Reader<'a> {
     ///
     /// Those of [`read_entry`].
     pub fn peek(&self) -> Result<Entry, Refusal> {
-        read_entry(self.log, self.at).map(|(entry, _)| entry)
+        read_entry(self.log, self.at, self.edition()).map(|(entry, _)| entry)
     }
 
     /// The next entry. At the end and at a refusal the reader stays where it is and answers the same again.
@@ -272,7 +285,7 @@ impl<'a> Reader<'a> {
     ///
     /// Those of the function [`read_entry`].
     pub fn read_entry(&mut self) -> Result<Entry, Refusal> {
-        let (entry, next) = read_entry(self.log, self.at)?;
+        let (entry, next) = read_entry(self.log, self.at, self.edition())?;
         self.at = next;
         Ok(entry)
     }
@@ -283,7 +296,7 @@ impl<'a> Reader<'a> {
     ///
     /// Those of the function [`read_entry`].
     pub fn see_entry(&mut self) -> Result<EntryRef<'a>, Refusal> {
-        let (entry, next) = see_entry(self.log, self.at)?;
+        let (entry, next) = see_entry(self.log, self.at, self.edition())?;
         self.at = next;
         Ok(entry)
     }
@@ -291,11 +304,11 @@ impl<'a> Reader<'a> {
     /// The clears and updates from here on, lent out of the log: nothing of them is copied.
     ///
     /// ```
-    /// use bitbox::{LogWriter, Reader};
+    /// use bitbox::{LogWriter, Reader, Start};
     ///
     /// # fn main() -> Result<(), bitbox::Refusal> {
     /// let mut memory = [0; 4096];
-    /// let mut writer = LogWriter::begin(&mut memory, 7)?;
+    /// let mut writer = LogWriter::begin(&mut memory, Start::two(7, *b"of one recording"))?;
     /// writer.write_clear(3)?;
     /// writer.write_clear(5)?;
     /// let buckets: Result<Vec<_>, _> =
@@ -361,8 +374,8 @@ pub enum Writer {
     /// Nothing has begun.
     #[default]
     Fresh,
-    /// A log is being written; the next record goes to this position.
-    Open(usize),
+    /// A log of this edition is being written; the next record goes to this position.
+    Open(usize, Edition),
     /// A log of this length is finished.
     Finished(usize),
 }
@@ -371,7 +384,8 @@ impl Writer {
     pub(crate) fn state(self) -> ffi::WriterState {
         match self {
             Writer::Fresh => ffi::WriterState { kind: 0, at: 0 },
-            Writer::Open(at) => ffi::WriterState { kind: 1, at: at as u64 },
+            Writer::Open(at, Edition::One) => ffi::WriterState { kind: 1, at: at as u64 },
+            Writer::Open(at, Edition::Two) => ffi::WriterState { kind: 3, at: at as u64 },
             Writer::Finished(length) => ffi::WriterState { kind: 2, at: length as u64 },
         }
     }
@@ -379,7 +393,8 @@ impl Writer {
     pub(crate) fn of(state: ffi::WriterState) -> Writer {
         match state.kind {
             0 => Writer::Fresh,
-            1 => Writer::Open(position(state.at)),
+            1 => Writer::Open(position(state.at), Edition::One),
+            3 => Writer::Open(position(state.at), Edition::Two),
             // As the boundary has it: any other is finished.
             _ => Writer::Finished(position(state.at)),
         }
@@ -396,8 +411,8 @@ impl Writer {
     /// # Errors
     ///
     /// [`NoRoom`](Refusal::NoRoom): the slice is shorter than 4,096 bytes.
-    pub fn begin(&mut self, log: &mut [u8], sync_seqn: u32) -> Result<(), Refusal> {
-        self.moved(ffi::begin(log, self.state(), sync_seqn)).map(|_| ())
+    pub fn begin(&mut self, log: &mut [u8], start: Start) -> Result<(), Refusal> {
+        self.moved(ffi::begin(log, self.state(), start.lent())).map(|_| ())
     }
 
     /// Writes that a bucket is cleared.
@@ -445,9 +460,9 @@ impl<'a> LogWriter<'a> {
     /// # Errors
     ///
     /// [`NoRoom`](Refusal::NoRoom): the slice is shorter than 4,096 bytes.
-    pub fn begin(log: &'a mut [u8], sync_seqn: u32) -> Result<LogWriter<'a>, Refusal> {
+    pub fn begin(log: &'a mut [u8], start: Start) -> Result<LogWriter<'a>, Refusal> {
         let mut writer = Writer::Fresh;
-        writer.begin(log, sync_seqn)?;
+        writer.begin(log, start)?;
         Ok(LogWriter { log, writer })
     }
 

@@ -1,6 +1,6 @@
 //! Replay: a sync's log, taken into the table's image after a stop.
 
-use crate::{ffi, log::position, refusal::said, Refusal};
+use crate::{ffi, log::position, refusal::said, Edition, Refusal, Seed};
 
 /// What a replay comes to.
 #[derive(Clone, Copy, Debug, PartialEq, Eq, Hash)]
@@ -13,18 +13,19 @@ pub enum Replayed {
     Applied,
 }
 
-/// Takes a log into a table's image. The whole log is read before the image is touched. Wherever a replay
-/// stops, another one from there ends in the same image. `hashes` has the hash of each update's page, in
+/// Takes a log of either edition into a table's image. The whole log is read before the image is touched. Wherever a
+/// replay stops, another one from there ends in the same image. `hashes` has the hash of each update's page, in
 /// the log's order.
 ///
-/// Only the sync number says that the log is this table's: one of another store with the same number is taken
-/// too. The guide says what to do about it.
+/// `sync_seqn` and `seed` are the store's own. A log of edition two that names another seed is refused. **One of
+/// edition one names none**: it is taken if it has the same sync number, whichever store's it is.
 ///
 /// ```
 /// use bitbox::*;
 ///
 /// # fn main() -> Result<(), Box<dyn std::error::Error>> {
 /// const N: usize = 8;
+/// let seed = *b"of one recording"; // a service draws it by chance
 /// let id = [7; 32];
 /// let hash_of = |_id: &PageId| 42; // the service's own hash
 /// let mut page = [1; PAGE];
@@ -36,7 +37,7 @@ pub enum Replayed {
 /// let (mut marks, mut log, mut writer) = ([0; 1], [0; PAGE], Writer::Fresh);
 /// let changes = [Change::new(id, hash_of(&id), Diff::default().set_changed(3)?, Where::Fresh)];
 /// let mut lent = Lent { n: N, tags: &mut tags, marks: &mut marks, cells: &mut [], log: &mut log };
-/// let synced = sync(&mut lent, &mut writer, 1, &changes, &page)?;
+/// let synced = sync(&mut lent, &mut writer, Start::two(1, seed), &changes, &page)?;
 /// let log = &log[..synced.length];
 ///
 /// // After a power cut: the hashes of the log's updates, then the replay.
@@ -46,7 +47,8 @@ pub enum Replayed {
 ///         hashes.push(hash_of(&update.id));
 ///     }
 /// }
-/// assert_eq!(replay(&mut image, N, log, 1, &hashes)?, Replayed::Applied);
+/// assert_eq!(replay(&mut image, N, log, 1, b"of its rehearsal", &hashes), Err(Refusal::OtherStore));
+/// assert_eq!(replay(&mut image, N, log, 1, &seed, &hashes)?, Replayed::Applied);
 /// assert_eq!(image[..tags.len()], tags);
 /// assert_eq!(lookup(&image, N, 42, &id)?, Found::At(2));
 /// assert_eq!(audit(&image, N, &[42; N])?.occupied, 1);
@@ -57,12 +59,19 @@ pub enum Replayed {
 /// # Errors
 ///
 /// In this order: [`TableUnfit`](Refusal::TableUnfit), [`LogNotPages`](Refusal::LogNotPages),
-/// [`NoStart`](Refusal::NoStart); then those of the first bad entry, [`LogCut`](Refusal::LogCut),
-/// [`DiffReserved`](Refusal::DiffReserved), [`TagUnknown`](Refusal::TagUnknown) or
-/// [`BucketOutside`](Refusal::BucketOutside); last [`LengthUnfit`](Refusal::LengthUnfit): there are not as
-/// many hashes as updates.
-pub fn replay(image: &mut [u8], n: usize, log: &[u8], sync_seqn: u32, hashes: &[u64]) -> Result<Replayed, Refusal> {
-    let answer = ffi::replay(image, n, log, sync_seqn, hashes);
+/// [`NoStart`](Refusal::NoStart), [`OtherStore`](Refusal::OtherStore); then, unless the log is stale, those of the
+/// first bad entry, [`LogCut`](Refusal::LogCut), [`DiffReserved`](Refusal::DiffReserved),
+/// [`TagUnknown`](Refusal::TagUnknown) or [`BucketOutside`](Refusal::BucketOutside); last
+/// [`LengthUnfit`](Refusal::LengthUnfit): there are not as many hashes as updates.
+pub fn replay(
+    image: &mut [u8],
+    n: usize,
+    log: &[u8],
+    sync_seqn: u32,
+    seed: &Seed,
+    hashes: &[u64],
+) -> Result<Replayed, Refusal> {
+    let answer = ffi::replay(image, n, log, sync_seqn, seed, hashes);
     said(answer.refusal)?;
     Ok(match answer.value {
         0 => Replayed::Nothing,
@@ -89,13 +98,21 @@ pub enum Stepped {
     },
 }
 
-/// Takes the entry at a position of a log into a table's image; `hash` is that of an update's page.
+/// Takes the entry at a position of a log of this edition into a table's image; `hash` is that of an update's page.
+/// Neither the log's number nor its seed is looked at: that is [`replay`]'s, which looks before its first step.
 ///
 /// # Errors
 ///
 /// In this order: [`TableUnfit`](Refusal::TableUnfit); those of the entry, as [`replay`] has them.
-pub fn replay_step(image: &mut [u8], n: usize, log: &[u8], at: usize, hash: u64) -> Result<Stepped, Refusal> {
-    let ffi::Stepped { refusal, kind, next } = ffi::replay_step(image, n, log, at, hash);
+pub fn replay_step(
+    image: &mut [u8],
+    n: usize,
+    log: &[u8],
+    edition: Edition,
+    at: usize,
+    hash: u64,
+) -> Result<Stepped, Refusal> {
+    let ffi::Stepped { refusal, kind, next } = ffi::replay_step(image, n, log, edition.number(), at, hash);
     said(refusal)?;
     let next = position(next);
     Ok(match kind {

@@ -83,6 +83,7 @@ refusals! {
     22 TagWrong "A bucket's tag is not its page's.";
     23 EmptyFirst "A page's path meets an empty bucket before its own.";
     24 NotReached "A page's path never comes to its bucket.";
+    26 OtherStore "The log is of another store: it names another seed than this table's.";
 }
 
 impl fmt::Display for Refusal {
@@ -93,7 +94,7 @@ impl fmt::Display for Refusal {
 
 impl Error for Refusal {}
 
-/// What the boundary's number says: nothing for 0, else the refusal. That it is at most 24 is proved, and the
+/// What the boundary's number says: nothing for 0, else the refusal. That it is one of these is proved, and the
 /// build links no library of another version; any other is kept as it is, and nothing here stops the caller.
 pub(crate) fn said(number: u64) -> Result<(), Refusal> {
     match u8::try_from(number).unwrap_or(u8::MAX) {

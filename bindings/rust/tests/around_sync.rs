@@ -11,7 +11,7 @@ const N: usize = 8;
 fn synced(tags: &mut [u8], cells: &mut [u64], changes: &[Change]) -> Result<Vec<u8>, SyncRefused> {
     let (mut marks, mut log) = ([0; 1], vec![0; 4 * PAGE]);
     let mut lent = Lent { n: N, tags, marks: &mut marks, cells, log: &mut log };
-    let synced = sync(&mut lent, &mut Writer::Fresh, 3, changes, &vec![0; PAGE * changes.len()])?;
+    let synced = sync(&mut lent, &mut Writer::Fresh, Start::two(3, SEED), changes, &vec![0; PAGE * changes.len()])?;
     log.truncate(synced.length);
     Ok(log)
 }

@@ -30,7 +30,7 @@ fn log() -> (Vec<u8>, Vec<u64>) {
     let changes: Vec<Change> = hashes.iter().map(change).collect();
     let pages: Vec<u8> = changes.iter().flat_map(|c| page(1, c.id())).collect();
     let mut lent = Lent { n: MOST_BUCKETS, tags: &mut tags, marks: &mut marks, cells: &mut [], log: &mut log };
-    let synced = sync(&mut lent, &mut Writer::Fresh, 7, &changes, &pages).expect("new pages");
+    let synced = sync(&mut lent, &mut Writer::Fresh, Start::two(7, SEED), &changes, &pages).expect("new pages");
     log.truncate(synced.length);
     (log, hashes)
 }
@@ -43,7 +43,7 @@ fn a_recovery_takes_the_named_pages_alone() {
     let before = most_memory();
 
     let mut image = Mapped::new(&File::open(&name).expect("the table")).expect("a mapping");
-    assert_eq!(replay(&mut image, MOST_BUCKETS, &log, 7, &hashes), Ok(Replayed::Applied));
+    assert_eq!(replay(&mut image, MOST_BUCKETS, &log, 7, &SEED, &hashes), Ok(Replayed::Applied));
     let mut out = std::collections::BTreeMap::new();
     for entry in Reader::new(&log).expect("a log").entries() {
         let bucket = entry.expect("an entry").bucket().expect("a bucket");

@@ -54,24 +54,32 @@ fn pages_and_tags() {
 
 #[test]
 fn logs() {
-    // A log that is full to its last byte.
-    let mut log = bytes(PAGE);
-    let mut w = Writer::Fresh;
-    w.begin(log.lent(), u32::MAX).expect("a page");
-    let d = diff(&(0..121).collect::<Vec<_>>());
-    let nodes = Packed::from_table([[7; NODE]; SLOTS], 121);
-    w.write_update(log.lent(), &Update { bucket: 1, id: id(1), diff: d, nodes, elided: [8; 8] }).expect("room");
-    for _ in 0..17 {
-        w.write_clear(log.lent(), u64::MAX).expect("room");
+    // A log that is full to its last byte: 5 + (65 + 32 * 121) + 17 * 9 + 1 bytes, 22 + (66 + 32 * 123) + 7 * 10 + 2.
+    for (edition, slots, clears) in [(Edition::One, 121, 17), (Edition::Two, 123, 7)] {
+        let mut log = bytes(PAGE);
+        let mut w = Writer::Fresh;
+        w.begin(log.lent(), start(edition, u32::MAX)).expect("a page");
+        let d = diff(&(0..slots).collect::<Vec<_>>());
+        let nodes = Packed::from_table([[7; NODE]; SLOTS], slots);
+        w.write_update(log.lent(), &Update { bucket: 1, id: id(1), diff: d, nodes, elided: [8; 8] }).expect("room");
+        for _ in 0..clears {
+            w.write_clear(log.lent(), u64::MAX).expect("room");
+        }
+        assert_eq!(w, Writer::Open(PAGE - sizes(edition).0, edition));
+        assert_eq!(w.finish(log.lent()), Ok(PAGE));
+        assert!(log.lent()[PAGE - 1] == 2 && log.stays(WALL));
     }
-    assert_eq!(w, Writer::Open(PAGE - 1));
-    assert_eq!(w.finish(log.lent()), Ok(PAGE));
-    assert!(log.lent()[PAGE - 1] == 2 && log.stays(WALL));
 }
 
 #[test]
 fn syncs() {
-    let n = 4096;
+    for edition in EDITIONS {
+        a_sync_and_a_step(edition);
+    }
+}
+
+fn a_sync_and_a_step(edition: Edition) {
+    let (n, mark) = (4096, sizes(edition).0);
     let (mut tags, mut marks, mut log) = (bytes(PAGE), bytes(1), bytes(PAGE));
     let mut cells = Amid::new(&[UNSET], 0xC0FFEE);
     let changes = [
@@ -80,25 +88,31 @@ fn syncs() {
         Change::new(id(1), 4095, cleared(), Where::Cell(0)),
     ];
     let pages: Vec<u8> = changes.iter().flat_map(|c| page(5, c.id())).collect();
-    let mut writer = Writer::Fresh;
+    let (mut writer, start) = (Writer::Fresh, start(edition, 1));
     let mut lent = Lent { n, tags: tags.lent(), marks: marks.lent(), cells: cells.lent(), log: log.lent() };
-    assert_eq!(sync(&mut lent, &mut writer, 1, &changes, &pages), Ok(Synced { occupied: 1, length: PAGE }));
+    assert_eq!(sync(&mut lent, &mut writer, start, &changes, &pages), Ok(Synced { occupied: 1, length: PAGE }));
     assert_eq!((cells.lent()[0], tags.lent()[4095], tags.lent()[0]), (4095, TOMBSTONE, 0x80));
     assert!(tags.stays(WALL) && marks.stays(WALL) && log.stays(WALL) && cells.stays(0xC0FFEE));
 
-    let mut state = State { writer: Writer::Open(PAGE - 10), occupied: 1 };
+    let mut state = State { writer: Writer::Open(PAGE - (mark + 8) - mark, edition), occupied: 1 };
     let mut lent = Lent { n, tags: tags.lent(), marks: marks.lent(), cells: cells.lent(), log: log.lent() };
     let clear = Change::new(id(2), 4095, cleared(), Where::Known(0));
     assert_eq!(sync_step(&mut lent, &mut state, &clear, &pages[..PAGE]), Ok(Step { bucket: 0, page: 1 }));
-    assert_eq!(state, State { writer: Writer::Open(PAGE - 1), occupied: 0 });
+    assert_eq!(state, State { writer: Writer::Open(PAGE - mark, edition), occupied: 0 });
     assert!(tags.stays(WALL) && marks.stays(WALL) && log.stays(WALL) && cells.stays(0xC0FFEE));
 }
 
 #[test]
 fn images() {
-    let n = 2;
+    for edition in EDITIONS {
+        a_replay_and_a_growth(edition);
+    }
+}
+
+fn a_replay_and_a_growth(edition: Edition) {
+    let (n, (mark, first)) = (2, sizes(edition));
     let mut memory = vec![0; PAGE];
-    let mut writer = LogWriter::begin(&mut memory, 1).expect("a page");
+    let mut writer = LogWriter::begin(&mut memory, start(edition, 1)).expect("a page");
     let d = diff(&[0, 125]);
     let nodes = Packed::new(&[[1; NODE], [2; NODE]]).expect("two nodes");
     writer.write_clear(0).expect("room");
@@ -106,10 +120,11 @@ fn images() {
     let log = writer.finish().expect("room");
 
     let mut image = bytes(common::image(n).len());
-    assert_eq!(replay(image.lent(), n, log, 1, &[1]), Ok(Replayed::Applied));
+    assert_eq!(replay(image.lent(), n, log, 1, &SEED, &[1]), Ok(Replayed::Applied));
     assert!(image.lent().ends_with(&id(1)) && image.stays(WALL));
     let mut again = bytes(common::image(n).len());
-    assert_eq!(replay_step(again.lent(), n, log, 14, 1), Ok(Stepped::Updated { next: 14 + 65 + 64 }));
+    let (at, next) = (first + mark + 8, first + mark + 8 + mark + 64 + 64);
+    assert_eq!(replay_step(again.lent(), n, log, edition, at, 1), Ok(Stepped::Updated { next }));
     assert!(again.lent().ends_with(&id(1)) && again.stays(WALL));
 
     let mut larger = bytes(common::image(4).len());

@@ -4,15 +4,14 @@ use bitbox::Refusal;
 use std::error::Error;
 
 #[test]
-fn numbers_run_from_1_to_24() {
-    for (i, refusal) in Refusal::all().enumerate() {
-        assert_eq!(refusal.number() as usize, i + 1);
+fn numbers_are_1_to_24_and_26() {
+    assert!(Refusal::all().map(Refusal::number).eq((1..=24).chain([26])));
+    for refusal in Refusal::all() {
         assert_eq!(Refusal::from_number(refusal.number()), Some(refusal));
     }
-    assert_eq!(Refusal::all().len(), 24);
-    assert_eq!(Refusal::from_number(0), None);
-    assert_eq!(Refusal::from_number(25), None);
-    assert_eq!(Refusal::from_number(255), None);
+    for none in [0, 25, 27, 255] {
+        assert_eq!(Refusal::from_number(none), None);
+    }
 }
 
 #[test]

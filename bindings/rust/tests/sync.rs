@@ -14,6 +14,7 @@ struct Memory {
     cells: Vec<u64>,
     log: Vec<u8>,
     writer: Writer,
+    edition: Edition,
 }
 
 impl Memory {
@@ -26,6 +27,7 @@ impl Memory {
             cells: vec![UNSET; 2],
             log: vec![0xEE; 4 * PAGE],
             writer: Writer::Fresh,
+            edition: Edition::Two,
         }
     }
 
@@ -35,8 +37,8 @@ impl Memory {
     }
 
     fn sync(&mut self, seqn: u32, changes: &[Change], pages: &[u8]) -> Result<Synced, SyncRefused> {
-        let mut writer = self.writer;
-        let answer = sync(&mut self.lent(), &mut writer, seqn, changes, pages);
+        let (mut writer, start) = (self.writer, start(self.edition, seqn));
+        let answer = sync(&mut self.lent(), &mut writer, start, changes, pages);
         self.writer = writer;
         answer
     }
@@ -61,7 +63,13 @@ fn a_change_holds_what_it_was_made_of() {
 
 #[test]
 fn a_sync_takes_its_changes() {
-    let mut m = Memory::new(5000);
+    for edition in EDITIONS {
+        takes_its_changes(edition);
+    }
+}
+
+fn takes_its_changes(edition: Edition) {
+    let mut m = Memory { edition, ..Memory::new(5000) };
     m.tags[4998] = 0x80;
     let changes = [
         Change::new(id(1), 4096, diff(&[1, 2]), Where::Cell(1)),
@@ -78,7 +86,7 @@ fn a_sync_takes_its_changes() {
     assert_eq!(m.tags.iter().filter(|&&t| t != 0).count(), 3);
 
     let reader = Reader::new(&m.log[..PAGE]).expect("a log");
-    assert_eq!(reader.sync_seqn(), 6);
+    assert_eq!(reader.start(), start(edition, 6));
     let entries: Vec<Entry> = reader.map(|e| e.expect("an entry")).collect();
     let wanted = |i: usize, bucket| {
         let page = &pages[PAGE * i..][..PAGE];
@@ -152,7 +160,7 @@ fn a_sync_refused_at_a_change_keeps_those_before() {
         let mut m = Memory::new(4);
         m.tags[3] = 0x81;
         // It becomes fresh; it is not so before.
-        m.writer = if i % 2 == 0 { Writer::Open(77) } else { Writer::Finished(PAGE) };
+        m.writer = if i % 2 == 0 { Writer::Open(77, Edition::One) } else { Writer::Finished(PAGE) };
         done(&mut m);
         let tags = m.tags.clone();
         let cells = m.cells.clone();
@@ -166,7 +174,7 @@ fn a_sync_refused_at_a_change_keeps_those_before() {
         assert!(m.tags.iter().zip(&tags).enumerate().all(|(b, (now, then))| b == 2 || now == then), "case {i}");
     }
     // All hits.
-    let mut m = Memory { writer: Writer::Open(5), ..Memory::new(4) };
+    let mut m = Memory { writer: Writer::Open(22, Edition::Two), ..Memory::new(4) };
     m.tags[..4].fill(0x80);
     let changes = [Change::new(id(2), 0, diff(&[]), Where::Fresh)];
     let refused = m.sync(3, &changes, &pages(&changes)).expect_err("no free bucket");
@@ -191,29 +199,39 @@ fn steps_come_to_the_same_as_a_sync() {
         Change::new(id(1), 9, cleared(), Where::Cell(0)),
     ];
     let pages = pages(&changes);
-    let mut whole = Memory::new(8);
-    let synced = whole.sync(5, &changes, &pages).expect("three changes");
+    for edition in EDITIONS {
+        let mut whole = Memory { edition, ..Memory::new(8) };
+        let synced = whole.sync(5, &changes, &pages).expect("three changes");
 
-    let mut m = Memory::new(8);
-    m.marks.fill(0);
-    let mut state = State { writer: Writer::Fresh, occupied: full_count(&m.tags, 8).expect("tags") };
-    state.writer.begin(&mut m.log, 5).expect("room");
-    let mut steps = vec![];
-    for (c, page) in changes.iter().zip(pages.chunks(PAGE)) {
-        steps.push(sync_step(&mut m.lent(), &mut state, c, page).expect("a step"));
+        let mut m = Memory::new(8);
+        m.marks.fill(0);
+        let mut state = State { writer: Writer::Fresh, occupied: full_count(&m.tags, 8).expect("tags") };
+        state.writer.begin(&mut m.log, start(edition, 5)).expect("room");
+        let mut steps = vec![];
+        for (c, page) in changes.iter().zip(pages.chunks(PAGE)) {
+            steps.push(sync_step(&mut m.lent(), &mut state, c, page).expect("a step"));
+            assert!(matches!(state.writer, Writer::Open(_, kept) if kept == edition), "the writer keeps the edition");
+        }
+        let at = |bucket| Step { bucket, page: 1 + bucket };
+        assert_eq!(steps, [at(1), at(2), at(1)]);
+        let length = state.writer.finish(&mut m.log).expect("room");
+        assert_eq!(Synced { occupied: state.occupied, length }, synced);
+        m.writer = state.writer;
+        assert!(m.all() == whole.all());
     }
-    let at = |bucket| Step { bucket, page: 1 + bucket };
-    assert_eq!(steps, [at(1), at(2), at(1)]);
-    let length = state.writer.finish(&mut m.log).expect("room");
-    assert_eq!(Synced { occupied: state.occupied, length }, synced);
-    m.writer = state.writer;
-    assert!(m.all() == whole.all());
 }
 
 #[test]
 fn a_step_refuses() {
+    for edition in EDITIONS {
+        step_refuses(edition);
+    }
+}
+
+fn step_refuses(edition: Edition) {
+    let (mark, first) = sizes(edition);
     let good = Change::new(id(1), 0, diff(&[1]), Where::Fresh);
-    let open = State { writer: Writer::Open(5), occupied: 3 };
+    let open = State { writer: Writer::Open(first, edition), occupied: 3 };
     let page = page(1, &id(1));
     let refused = |mut m: Memory, mut state: State, c: Change, page: &[u8], refusal| {
         let (before, state_before) = (m.all(), state);
@@ -233,7 +251,14 @@ fn a_step_refuses() {
     refused(Memory::new(1), open, with(diff(&[1]), Where::Known(1)), &page, BucketOutside);
     refused(Memory::new(1), open, with(diff(&[1]), Where::Known(0)), &page, BucketUnfit);
     refused(Memory::new(1), open, with(cleared(), Where::Fresh), &page, BucketUnfit);
-    refused(Memory::new(1), State { writer: Writer::Open(4 * PAGE), ..open }, good, &page, NoRoom);
+    // The last place at which it fits is a byte before the one at which it does not.
+    let last = 4 * PAGE - (mark + 64 + 32) - mark;
+    for at in [last + 1, 4 * PAGE, usize::MAX] {
+        refused(Memory::new(1), State { writer: Writer::Open(at, edition), ..open }, good, &page, NoRoom);
+    }
+    let mut state = State { writer: Writer::Open(last, edition), ..open };
+    assert_eq!(sync_step(&mut Memory::new(1).lent(), &mut state, &good, &page), Ok(Step { bucket: 0, page: 1 }));
+    assert_eq!(state, State { writer: Writer::Open(4 * PAGE - mark, edition), occupied: 4 });
     let full = |tag| {
         let mut m = Memory::new(1);
         m.tags[0] = tag;
@@ -246,7 +271,7 @@ fn a_step_refuses() {
     let mut state = State { occupied: 0, ..open };
     let clear = with(cleared(), Where::Known(0));
     assert_eq!(sync_step(&mut m.lent(), &mut state, &clear, &page), Ok(Step { bucket: 0, page: 1 }));
-    assert_eq!(state, State { writer: Writer::Open(14), occupied: 0 });
+    assert_eq!(state, State { writer: Writer::Open(first + mark + 8, edition), occupied: 0 });
     let mut state = State { occupied: u64::MAX, ..open };
     assert_eq!(sync_step(&mut m.lent(), &mut state, &good, &page), Ok(Step { bucket: 0, page: 1 }));
     assert_eq!(state.occupied, u64::MAX);

@@ -35,14 +35,15 @@ fn rounds(thread: u8) -> (Vec<u8>, u64) {
         let (mut marks, mut log) = (vec![0; tag_pages(n).expect("a count") as usize], vec![0; 8 * PAGE]);
         let mut writer = Writer::Fresh;
         let mut lent = Lent { n, tags: &mut tags, marks: &mut marks, cells: &mut [], log: &mut log };
-        let synced = sync(&mut lent, &mut writer, round, &changes, &pages).expect("a sync");
+        let edition = EDITIONS[round as usize % 2];
+        let synced = sync(&mut lent, &mut writer, start(edition, round), &changes, &pages).expect("a sync");
         assert_eq!(synced.occupied, ids.len() as u64);
 
         let log = &log[..synced.length];
         let hashes: Vec<u64> = changes.iter().map(Change::hash).collect();
         // Power fails after one entry; then the replay.
-        replay_step(&mut image, n, log, FIRST_ENTRY, hashes[0]).expect("a step");
-        assert_eq!(replay(&mut image, n, log, round, &hashes), Ok(Replayed::Applied));
+        replay_step(&mut image, n, log, edition, first_entry(log), hashes[0]).expect("a step");
+        assert_eq!(replay(&mut image, n, log, round, &SEED, &hashes), Ok(Replayed::Applied));
         assert!(image[..tags.len()] == tags, "the tags are those of the sync");
 
         for (id, hash) in &ids {

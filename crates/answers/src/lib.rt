@@ -29,6 +29,7 @@ pub enum Refusal {
     TagWrong,
     EmptyFirst,
     NotReached,
+    OtherStore,
 }
 
 // A call that has nothing to say but that it is done.
@@ -79,5 +80,6 @@ pub fn number_of(r: Refusal) -> u8
         Refusal::TagWrong => 22,
         Refusal::EmptyFirst => 23,
         Refusal::NotReached => 24,
+        Refusal::OtherStore => 26,
     }
 }

@@ -5,8 +5,10 @@ use mathlib.Core.List.{[], _∷_, map}
 use Prim.Native.Nat.{ℕ}
 use lib.Ieee.{binary64}
 use lib.Ieee as Ieee
+use lib.ListN.{replicate}
 use Rattle.answers.specs.Answers.{given, refused}
 use Rattle.probe.specs.Path.{emptyAt, tombstoneAt, hitAt, closed, foundAt, absent, unreached, hitLimit}
+use Rattle.wal.specs.declared.Edition.the-variants.{One, Two}
 use Rattle.wal.specs.declared.Writer.the-variants.{Fresh, Open, Finished}
 use Rattle.wal_read.specs.Head.{aClear, anUpdate, theEnd, aRefusal}
 use Rattle.wal_read.specs.Entry.{clears, updates, ends, refuses}
@@ -14,7 +16,7 @@ use Rattle.sync.specs.Sync.{saidDone, saidRefused, saidRefusedAt}
 use Rattle.recover.specs.Replay.{nothing, stale, applied, cleared, updated, atEnd}
 use Rattle.rehash.specs.Pending.{tidy, updateMetaThenTidy}
 use Rattle.rehash.specs.Growth.{done, nothingToDo}
-use Rattle.bitbox.specs.Words.{pair, refusalOf, outcomeWords, numberWords, truthWords, probeWords, lookupWords, entryRefusal, entryKind, entryBucket, headWords, writerOf, writerWords, writtenWords, finishedWords, stateOf, stateWords, stepWords, syncWords, replayWords, wentWords, markerWords, leftWords, growthWords, auditWords}
+use Rattle.bitbox.specs.Words.{editionOf, editionNumber, logStart, pair, refusalOf, outcomeWords, numberWords, truthWords, probeWords, lookupWords, entryRefusal, entryKind, entryBucket, headWords, writerOf, writerWords, writtenWords, finishedWords, stateOf, stateWords, stepWords, syncWords, replayWords, wentWords, markerWords, leftWords, growthWords, auditWords}
 
 -- done, a number, whether something holds; replay; what is left of a growth; growth: the refusal and the value
 pub answers : map outcomeWords (given tt ∷ refused 9 ∷ []) ∷ map numberWords (given 7 ∷ refused 9 ∷ []) ∷ map truthWords (given true ∷ given false ∷ refused 3 ∷ [])
@@ -45,16 +47,21 @@ pub entries : (map entryRefusal (ends ∷ clears 5 ∷ updates 6 ∷ refuses 8 �
 entries = (refl, refl, refl)
 
 -- a writer's state, both ways, and what its calls answer
-pub writers : (map writerOf (record { kind = 0; at = 5 } ∷ record { kind = 1; at = 5 } ∷ record { kind = 2; at = 4096 } ∷ record { kind = 3; at = 4096 } ∷ []) ≡ Fresh ∷ Open 5 ∷ Finished 4096 ∷ Finished 4096 ∷ [])
-    × (map writerWords (Fresh ∷ Open 5 ∷ Finished 4096 ∷ []) ≡ record { kind = 0; at = 0 } ∷ record { kind = 1; at = 5 } ∷ record { kind = 2; at = 4096 } ∷ [])
-    × (writtenWords (given tt) (Open 5) ∷ writtenWords (refused 13) Fresh ∷ finishedWords (given 4096) (Finished 4096) ∷ finishedWords (refused 12) Fresh ∷ []
+pub writers : (map writerOf (record { kind = 0; at = 5 } ∷ record { kind = 1; at = 5 } ∷ record { kind = 2; at = 4096 } ∷ record { kind = 3; at = 22 } ∷ record { kind = 4; at = 4096 } ∷ []) ≡ Fresh ∷ Open 5 One ∷ Finished 4096 ∷ Open 22 Two ∷ Finished 4096 ∷ [])
+    × (map writerWords (Fresh ∷ Open 5 One ∷ Open 22 Two ∷ Finished 4096 ∷ []) ≡ record { kind = 0; at = 0 } ∷ record { kind = 1; at = 5 } ∷ record { kind = 3; at = 22 } ∷ record { kind = 2; at = 4096 } ∷ [])
+    × (writtenWords (given tt) (Open 5 One) ∷ writtenWords (refused 13) Fresh ∷ finishedWords (given 4096) (Finished 4096) ∷ finishedWords (refused 12) Fresh ∷ []
     ≡ record { refusal = 0; length = 0; writer = record { kind = 1; at = 5 } } ∷ record { refusal = 13; length = 0; writer = record { kind = 0; at = 0 } }
     ∷ record { refusal = 0; length = 4096; writer = record { kind = 2; at = 4096 } } ∷ record { refusal = 12; length = 0; writer = record { kind = 0; at = 0 } } ∷ [])
 writers = (refl, refl, refl)
 
+-- an edition, both ways, and what a log starts with
+pub editions : (map editionOf (0 ∷ 1 ∷ 2 ∷ 3 ∷ []) ≡ One ∷ One ∷ Two ∷ One ∷ []) × (map editionNumber (One ∷ Two ∷ []) ≡ 1 ∷ 2 ∷ [])
+    × (logStart (record { sync = 7; edition = 2; seed = replicate 16 5 }) ≡ record { sync = 7; edition = Two; seed = replicate 16 5 })
+editions = (refl, refl, refl)
+
 -- a sync's state, both ways, a change and a whole sync
-pub syncs : (stateOf (record { n = 3; writer = record { kind = 1; at = 5 }; occupied = 2 }) ≡ record { n = 3; limit = hitLimit; writer = Open 5; occupied = 2 })
-    × (stateWords (record { n = 3; limit = hitLimit; writer = Open 5; occupied = 2 }) ≡ record { n = 3; writer = record { kind = 1; at = 5 }; occupied = 2 })
+pub syncs : (stateOf (record { n = 3; writer = record { kind = 1; at = 5 }; occupied = 2 }) ≡ record { n = 3; limit = hitLimit; writer = Open 5 One; occupied = 2 })
+    × (stateWords (record { n = 3; limit = hitLimit; writer = Open 5 One; occupied = 2 }) ≡ record { n = 3; writer = record { kind = 1; at = 5 }; occupied = 2 })
     × (map (λ a. stepWords a (record { n = 3; writer = record { kind = 1; at = 5 }; occupied = 2 })) (given (1, 2) ∷ refused 14 ∷ [])
     ≡ record { refusal = 0; bucket = 1; page = 2; state = record { n = 3; writer = record { kind = 1; at = 5 }; occupied = 2 } }
     ∷ record { refusal = 14; bucket = 0; page = 0; state = record { n = 3; writer = record { kind = 1; at = 5 }; occupied = 2 } } ∷ [])

@@ -3,13 +3,15 @@
 use mathlib.Core.Path.{_≡_, refl, sym, ap, ap₂, _∙_, subst}
 use mathlib.Core.Bool.{true}
 use mathlib.Core.List.{List}
-use Prim.Native.Nat.{ℕ, _+_}
+use Prim.Native.Nat.{ℕ}
 use native.Mathlib.Omega.{arith}
 use lib.ListN.{length, take}
 use Rattle.ht_file.specs.Places.{imageFits}
 use Rattle.answers.specs.Answers.{given}
-use Rattle.recover.specs.Replay.{applied, replayAnswer}
-use Rattle.wal.specs.Log.{startSize, recordsOf}
+use Rattle.recover.specs.Replay.{applied, replayAnswer, Own}
+use Rattle.recover.specs.declared.Expected.{Expected}
+use Rattle.wal.specs.Run.{endOf}
+use Rattle.wal.specs.declared.Start.{Start}
 use Rattle.wal.specs.Reader.{readLog}
 use Rattle.sync.specs.Change.{Mem}
 use Rattle.sync.specs.Sync.{entriesOf, hashesOf, startMem, startState, SyncSaid, saidDone, saidRefused, saidRefusedAt, syncSays, syncWriter, widthsBy, SyncPromise}
@@ -18,7 +20,8 @@ use Rattle.sync.specs.declared.SyncAnswer.{SyncAnswer as Answer}
 use Rattle.sync.specs.declared.Synced.the-variants.{Done}
 use Rattle.sync.proofs.Refused.{OfStart, table-unfit, lengths-unfit, no-page-of-log, OfChange, reserved-bit, cell-index, bucket-outside, bucket-unfit, no-room, path-crowded, path-closed, start-number, refused-before, refused-at}
 use Rattle.sync.proofs.Promises.{sync-reads-back, sync-replays}
-use Rattle.bitbox.specs.Words.{writerOf, writerWords, syncStart, syncWords, SyncExport}
+use Rattle.bitbox.specs.Words.{logStart, writerOf, writerWords, syncStart, syncWords, SyncExport}
+use Rattle.bitbox.specs.declared.LogStart.{LogStart}
 use Rattle.bitbox.specs.declared.SyncAnswer.{SyncAnswer}
 use Rattle.bitbox.specs.declared.WriterState.{WriterState}
 
@@ -37,42 +40,45 @@ no-change k no-room e = omega arith
 no-change k path-crowded e = omega arith
 no-change k path-closed e = omega arith
 
-module _ (n : ℕ) (m : Mem) (pages : List ℕ) (cs : List Change) (sync : ℕ) (w : WriterState) (r : SyncAnswer) (after : Mem) (x : SyncExport n m pages cs sync w r after) (ok : r .refusal ≡ 0) where
+module _ (n : ℕ) (m : Mem) (pages : List ℕ) (cs : List Change) (from : LogStart) (w : WriterState) (r : SyncAnswer) (after : Mem) (x : SyncExport n m pages cs from w r after) (ok : r .refusal ≡ 0) where
+  abbrev start : Start
+  start = logStart from
+
   -- the answer of `sync` that these words say
   abbrev pub answered : Answer
-  answered = record { synced = Done (r .occupied) (r .length); writer = syncWriter n m pages cs sync (writerOf w) }
+  answered = record { synced = Done (r .occupied) (r .length); writer = syncWriter n m pages cs start (writerOf w) }
 
-  done-said : syncSays n m pages cs sync ≡ saidDone (r .occupied) (r .length)
-  done-said = go (syncSays n m pages cs sync) refl
+  done-said : syncSays n m pages cs start ≡ saidDone (r .occupied) (r .length)
+  done-said = go (syncSays n m pages cs start) refl
     where
-      go : (s : SyncSaid) → syncSays n m pages cs sync ≡ s → syncSays n m pages cs sync ≡ saidDone (r .occupied) (r .length)
+      go : (s : SyncSaid) → syncSays n m pages cs start ≡ s → syncSays n m pages cs start ≡ saidDone (r .occupied) (r .length)
       go (saidDone o l) e =
-          let z : r ≡ syncWords (saidDone o l) (writerWords (syncWriter n m pages cs sync (writerOf w))) = x .answer ∙ ap (λ (s : SyncSaid). syncWords s (writerWords (syncWriter n m pages cs sync (writerOf w)))) e in
+          let z : r ≡ syncWords (saidDone o l) (writerWords (syncWriter n m pages cs start (writerOf w))) = x .answer ∙ ap (λ (s : SyncSaid). syncWords s (writerWords (syncWriter n m pages cs start (writerOf w)))) e in
           e ∙ ap₂ saidDone (sym (ap (λ (a : SyncAnswer). a .occupied) z)) (sym (ap (λ (a : SyncAnswer). a .length) z))
       go (saidRefused k) e =
-          let z : r .refusal ≡ k = ap (λ (a : SyncAnswer). a .refusal) (x .answer) ∙ ap (λ (s : SyncSaid). syncWords s (writerWords (syncWriter n m pages cs sync (writerOf w))) .refusal) e in
-          absurd (no-start k (start-number n m pages (length cs) k (refused-before n m pages cs sync k e .0)) (sym z ∙ ok))
+          let z : r .refusal ≡ k = ap (λ (a : SyncAnswer). a .refusal) (x .answer) ∙ ap (λ (s : SyncSaid). syncWords s (writerWords (syncWriter n m pages cs start (writerOf w))) .refusal) e in
+          absurd (no-start k (start-number n m pages (length cs) k (refused-before n m pages cs start k e .0)) (sym z ∙ ok))
       go (saidRefusedAt j k) e =
-          let z : r .refusal ≡ k = ap (λ (a : SyncAnswer). a .refusal) (x .answer) ∙ ap (λ (s : SyncSaid). syncWords s (writerWords (syncWriter n m pages cs sync (writerOf w))) .refusal) e in
-          absurd (no-change k (refused-at n m pages cs sync j k e .number) (sym z ∙ ok))
+          let z : r .refusal ≡ k = ap (λ (a : SyncAnswer). a .refusal) (x .answer) ∙ ap (λ (s : SyncSaid). syncWords s (writerWords (syncWriter n m pages cs start (writerOf w))) .refusal) e in
+          absurd (no-change k (refused-at n m pages cs start j k e .number) (sym z ∙ ok))
 
-  pub exported-sync : SyncPromise (syncStart n w sync) m pages cs answered after
+  pub exported-sync : SyncPromise (syncStart n w from) m pages cs answered after
   exported-sync =
       record {
         says = sym done-said;
         writer = refl;
         memory = x .memory;
-        widths = subst (λ (s : SyncSaid). widthsBy s cs sync) done-said (x .widths);
+        widths = subst (λ (s : SyncSaid). widthsBy s cs start) done-said (x .widths);
       }
 
   -- so its log reads back, and replay accepts it with the hashes of the changes that do not clear
   pub exported-reads-back : readLog (take (r .length) (after .log))
       ≡ record {
-        entries = entriesOf (startMem m sync) pages cs 0 (startState n m);
-        at = startSize + length (recordsOf (entriesOf (startMem m sync) pages cs 0 (startState n m)));
+        entries = entriesOf (startMem m (logStart from)) pages cs 0 (startState n m (logStart from));
+        at = endOf (logStart from) (entriesOf (startMem m (logStart from)) pages cs 0 (startState n m (logStart from)));
         stop = given tt;
       }
-  exported-reads-back = sync-reads-back (syncStart n w sync) m pages cs answered after exported-sync (r .occupied) (r .length) refl
+  exported-reads-back = sync-reads-back (syncStart n w from) m pages cs answered after exported-sync (r .occupied) (r .length) refl
 
-  pub exported-replays : (table : List ℕ) → imageFits n (length table) ≡ true → replayAnswer n table (take (r .length) (after .log)) sync (hashesOf cs) ≡ given applied
-  exported-replays = sync-replays (syncStart n w sync) m pages cs answered after exported-sync (r .occupied) (r .length) refl
+  pub exported-replays : (want : Expected) → Own (logStart from) want → (table : List ℕ) → imageFits n (length table) ≡ true → replayAnswer n table (take (r .length) (after .log)) want (hashesOf cs) ≡ given applied
+  exported-replays = sync-replays (syncStart n w from) m pages cs answered after exported-sync (r .occupied) (r .length) refl

@@ -11,6 +11,9 @@ use lib.Dec.{eqb}
 use Rattle.answers.specs.Answers.{Answer, given, refused}
 use Rattle.probe.specs.Path.{Probe, emptyAt, tombstoneAt, hitAt, closed, Sought, foundAt, absent, unreached, hitLimit}
 use Rattle.wal.specs.Reader.{Next}
+use Rattle.wal.specs.declared.Edition.{Edition}
+use Rattle.wal.specs.declared.Edition.the-variants.{One, Two}
+use Rattle.wal.specs.declared.Start.{Start}
 use Rattle.wal.specs.declared.Writer.{Writer}
 use Rattle.wal.specs.declared.Writer.the-variants.{Fresh, Open, Finished}
 use Rattle.wal_read.specs.Head.{Seen, aClear, anUpdate, theEnd, aRefusal}
@@ -21,12 +24,14 @@ use Rattle.sync.specs.declared.Change.{Change}
 use Rattle.sync.specs.declared.SyncState.{SyncState}
 use Rattle.sync.specs.declared.SyncStart.{SyncStart}
 use Rattle.recover.specs.Replay.{Did, nothing, stale, applied, Went, cleared, updated, atEnd}
+use Rattle.recover.specs.declared.Expected.{Expected}
 use Rattle.rehash.specs.Marker.{Counts}
 use Rattle.rehash.specs.Pending.{Left, tidy, updateMetaThenTidy}
 use Rattle.rehash.specs.Growth.{Growth, done, nothingToDo}
 use Rattle.bitbox.specs.declared.Answer.{Answer as Words}
 use Rattle.bitbox.specs.declared.Probed.{Probed}
 use Rattle.bitbox.specs.declared.Found.{Found}
+use Rattle.bitbox.specs.declared.LogStart.{LogStart}
 use Rattle.bitbox.specs.declared.WriterState.{WriterState}
 use Rattle.bitbox.specs.declared.StepState.{StepState}
 use Rattle.bitbox.specs.declared.StepAnswer.{StepAnswer}
@@ -127,16 +132,35 @@ headWords (anUpdate b c p) at = head 0 2 b c p
 headWords theEnd at = head 0 0 0 0 at
 headWords (aRefusal k) at = head k 0 0 0 at
 
--- a writer: 0 fresh, 1 open at a position, any other finished with a length
+-- an edition: 2 is the second, any other number the first
+abbrev pub editionOf : ℕ → Edition
+editionOf k = cond (eqb k 2) Two One
+
+abbrev pub editionNumber : Edition → ℕ
+editionNumber One = 1
+editionNumber Two = 2
+
+-- what a log starts with, and what replay expects
+abbrev pub logStart : LogStart → Start
+logStart s = record { sync = s .sync; edition = editionOf (s .edition); seed = s .seed }
+
+abbrev pub expected : ℕ → List ℕ → Expected
+expected sync seed = record { sync = sync; seed = seed }
+
+-- a writer: 0 fresh, 1 open at a position of a log of edition one, 3 of edition two, any other finished with a length
+abbrev pub openKind : Edition → ℕ
+openKind One = 1
+openKind Two = 3
+
 abbrev pub writerOf : WriterState → Writer
-writerOf w = cond (eqb (w .kind) 0) Fresh (cond (eqb (w .kind) 1) (Open (w .at)) (Finished (w .at)))
+writerOf w = cond (eqb (w .kind) 0) Fresh (cond (eqb (w .kind) 1) (Open (w .at) One) (cond (eqb (w .kind) 3) (Open (w .at) Two) (Finished (w .at))))
 
 abbrev pub state : ℕ → ℕ → WriterState
 state k p = record { kind = k; at = p }
 
 abbrev pub writerWords : Writer → WriterState
 writerWords Fresh = state 0 0
-writerWords (Open p) = state 1 p
+writerWords (Open p ed) = state (openKind ed) p
 writerWords (Finished len) = state 2 len
 
 -- a writer's call: its answer, the length that finish gives, and the state after it
@@ -167,8 +191,8 @@ stepWords (given p) s = record { refusal = 0; bucket = p .0; page = p .1; state 
 stepWords (refused k) s = record { refusal = k; bucket = 0; page = 0; state = s }
 
 -- what a sync begins with
-abbrev pub syncStart : ℕ → WriterState → ℕ → SyncStart
-syncStart n w sync = record { n = n; «sync_seqn» = sync; writer = writerOf w }
+abbrev pub syncStart : ℕ → WriterState → LogStart → SyncStart
+syncStart n w start = record { n = n; «log_start» = logStart start; writer = writerOf w }
 
 -- a sync: full buckets and the log's length; a refusal; or a refusal at a change
 abbrev pub synced : ℕ → ℕ → ℕ → ℕ → ℕ → WriterState → SyncAnswer
@@ -185,10 +209,10 @@ pub record StepExport (st : StepState) (m : Mem) (page : List ℕ) (c : Change) 
   pub memory : after ≡ memBy (effectOf (stateOf st) m page c) (stateOf st) m page c
   pub wide : Wide c
 
-pub record SyncExport (n : ℕ) (m : Mem) (pages : List ℕ) (cs : List Change) (sync : ℕ) (w : WriterState) (r : SyncAnswer) (after : Mem) : Type 0 where
-  pub answer : r ≡ syncWords (syncSays n m pages cs sync) (writerWords (syncWriter n m pages cs sync (writerOf w)))
-  pub memory : after ≡ syncMem n m pages cs sync
-  pub widths : widthsBy (syncSays n m pages cs sync) cs sync
+pub record SyncExport (n : ℕ) (m : Mem) (pages : List ℕ) (cs : List Change) (start : LogStart) (w : WriterState) (r : SyncAnswer) (after : Mem) : Type 0 where
+  pub answer : r ≡ syncWords (syncSays n m pages cs (logStart start)) (writerWords (syncWriter n m pages cs (logStart start) (writerOf w)))
+  pub memory : after ≡ syncMem n m pages cs (logStart start)
+  pub widths : widthsBy (syncSays n m pages cs (logStart start)) cs (logStart start)
 
 -- replay: 0 nothing, 1 stale, 2 applied
 abbrev pub replayWords : Answer Did → Words

@@ -13,10 +13,11 @@ ghost use Rattle.meta_map.specs.Tags.{empty, tombstone, full, kindOf, isKind, f
 ghost use Rattle.page_diff.specs.Diff.{marked, countOf, setAnswer, setWords, askAnswer, clearedWords, joined, bytesOfWords, readAnswer, readWords};
 ghost use Rattle.page_diff.specs.Pack.{packAnswer, packedOf, unpackAnswer, unpackedPage, packIntoAnswer, packedInto};
 ghost use Rattle.probe.specs.Path.{probeAnswer, lookupAnswer, hitLimit, allocateAnswer, allocatedTags, probedSaid, foundSaid, allocatedSaid};
-ghost use Rattle.wal.specs.Reader.{startOf, nextAt};
+ghost use Rattle.wal.specs.Reader.{editionAt, startOf, seedOf, nextAt};
 ghost use Rattle.wal.specs.Writer.{beginAnswer, beginWriter, beginLog, clearAnswer, updateAnswer, finishAnswer, finishWriter, finishLog};
 ghost use Rattle.wal_read.specs.Head.{headOf, headSaid};
 ghost use Rattle.wal_read.specs.Entry.{whatSaid};
+ghost use Rattle.wal_read.specs.Set.{firstAt};
 ghost use Rattle.wal_write.specs.Calls.{clearWriter, clearLog, updateWriter, updateLog};
 ghost use Rattle.sync.specs.Change.{memOf, takenSaid};
 ghost use Rattle.sync.specs.Sync.{syncedSaid};
@@ -25,7 +26,7 @@ ghost use Rattle.rehash.specs.Marker.{writeAnswer as writeMarkerAnswer, written
 ghost use Rattle.rehash.specs.Pending.{pendingAnswer, decisionSaid};
 ghost use Rattle.rehash.specs.Growth.{growthAnswer, growthImage, grownSaid};
 ghost use Rattle.validate.specs.Audit.{auditAnswer, auditedSaid};
-ghost use Rattle.bitbox.specs.Words.{refusalOf, words, outcomeWords, numberWords, truthWords, probeWords, lookupWords, entryRefusal, entryKind, entryBucket, Read, headWords, writerOf, writerWords, writtenWords, finishedWords, stateOf, stateWords, stepWords, syncStart, syncWords, StepExport, SyncExport, replayWords, wentWords, markerWords, leftWords, growthWords, auditWords, pair};
+ghost use Rattle.bitbox.specs.Words.{refusalOf, words, outcomeWords, numberWords, truthWords, probeWords, lookupWords, entryRefusal, entryKind, entryBucket, Read, headWords, editionOf, editionNumber, logStart, openKind, expected, writerOf, writerWords, writtenWords, finishedWords, stateOf, stateWords, stepWords, syncStart, syncWords, StepExport, SyncExport, replayWords, wentWords, markerWords, leftWords, growthWords, auditWords, pair};
 use answers::Number;
 use answers::Outcome;
 use answers::Refusal;
@@ -33,6 +34,8 @@ use answers::Truth;
 use page_diff::Diff;
 use page_diff::Packed;
 use sync::Change;
+use wal::Edition;
+use wal::Start;
 use wal::Writer;
 
 // ---- answers
@@ -100,7 +103,17 @@ pub struct Head {
     pub next: u64,
 }
 
-// A writer's state: 0 fresh, 1 open at a position, any other finished with a length.
+// What a log starts with: its sync number; its edition, where 2 is the second and any other number the first; and
+// the seed of its store, which edition one leaves out.
+#[repr(C)]
+pub struct LogStart {
+    pub sync: u32,
+    pub edition: u32,
+    pub seed: [u8; 16],
+}
+
+// A writer's state: 0 fresh, 1 open at a position of a log of edition one, 3 of edition two, any other finished
+// with a length.
 #[repr(C)]
 pub struct WriterState {
     pub kind: u64,
@@ -316,6 +329,47 @@ fn of_allocated(a: probe::Allocated) -> Answer
     }
 }
 
+// The edition that a number says.
+fn edition_of(number: u32) -> Edition
+    ensures { λ r. ⌜ r ≡ editionOf number ⌝ }
+{
+    if number == 2 {
+        return Edition::Two;
+    }
+    Edition::One
+}
+
+// And the number of an edition.
+fn edition_number(e: Edition) -> u32
+    ensures { λ r. ⌜ r ≡ editionNumber e ⌝ }
+{
+    match e {
+        Edition::One => 1,
+        Edition::Two => 2,
+    }
+}
+
+fn log_start_of(s: LogStart) -> Start
+    ensures { λ r. ⌜ r ≡ logStart s ⌝ }
+{
+    let seed = s.seed;
+    Start {
+        sync: s.sync,
+        edition: edition_of(s.edition),
+        seed,
+    }
+}
+
+// The kind of a writer that is open on a log of an edition.
+fn open_kind(e: Edition) -> u64
+    ensures { λ r. ⌜ r ≡ openKind e ⌝ }
+{
+    match e {
+        Edition::One => 1,
+        Edition::Two => 3,
+    }
+}
+
 fn writer_of(w: WriterState) -> Writer
     ensures { λ r. ⌜ r ≡ writerOf w ⌝ }
 {
@@ -323,7 +377,10 @@ fn writer_of(w: WriterState) -> Writer
         return Writer::Fresh;
     }
     if w.kind == 1 {
-        return Writer::Open(w.at as usize);
+        return Writer::Open(w.at as usize, Edition::One);
+    }
+    if w.kind == 3 {
+        return Writer::Open(w.at as usize, Edition::Two);
     }
     Writer::Finished(w.at as usize)
 }
@@ -333,8 +390,8 @@ fn of_writer(w: Writer) -> WriterState
 {
     match w {
         Writer::Fresh => WriterState { kind: 0, at: 0 },
-        Writer::Open(at) => WriterState {
-            kind: 1,
+        Writer::Open(at, edition) => WriterState {
+            kind: open_kind(edition),
             at: at as u64,
         },
         Writer::Finished(len) => WriterState {
@@ -780,7 +837,31 @@ pub extern "C" fn bitbox_allocate(tags: &mut [u8], n: usize, hash: u64) -> Answe
 
 // ---- the log
 
-// The sync number of a log: 5, 6, 7.
+// The edition that a log's first byte tells: 2 for 0xB2, else 1.
+#[no_mangle]
+pub extern "C" fn bitbox_reader_edition(log: &[u8]) -> u32
+    ensures { λ r. ⌜ r ≡ editionNumber (editionAt (now (log .entry))) ⌝ }
+{
+    edition_number(wal_read::edition_of(log))
+}
+
+// Where the first entry of a log stands.
+#[no_mangle]
+pub extern "C" fn bitbox_reader_first(log: &[u8]) -> usize
+    ensures { λ r. ⌜ r ≡ firstAt (now (log .entry)) ⌝ }
+{
+    wal_read::first_at(log)
+}
+
+// The seed in the start of a log of edition two; zeros where the log is shorter than a start.
+#[no_mangle]
+pub extern "C" fn bitbox_reader_seed(log: &[u8], seed: &mut [u8; 16])
+    ensures { λ _. ⌜ now (seed .exit) ≡ seedOf (now (log .entry)) ⌝ }
+{
+    *seed = wal_read::seed_of(log);
+}
+
+// The sync number of a log of either edition: 5, 6, 7.
 #[no_mangle]
 pub extern "C" fn bitbox_reader_set(log: &[u8]) -> Answer
     ensures { λ r. ⌜ r ≡ numberWords (startOf (now (log .entry))) ⌝ }
@@ -788,12 +869,13 @@ pub extern "C" fn bitbox_reader_set(log: &[u8]) -> Answer
     of_number(wal_read::set(log))
 }
 
-// The entry at a position: 6, 8, 4.
+// The entry at a position of a log of an edition: 6, 8, 4.
 #[no_mangle]
-pub extern "C" fn bitbox_reader_next(log: &[u8], at: usize) -> Entry
-    ensures { λ r. ⌜ Read (nextAt (now (log .entry)) at) at r ⌝ }
+pub extern "C" fn bitbox_reader_next(log: &[u8], at: usize, edition: u32) -> Entry
+    ensures { λ r. ⌜ Read (nextAt (editionOf edition) (now (log .entry)) at) at r ⌝ }
 {
-    let e = wal_read::entry_at(log, at);
+    let ed = edition_of(edition);
+    let e = wal_read::entry_at(log, at, ed);
     let what = e.what;
     let id = e.id;
     let diff = e.diff;
@@ -852,10 +934,11 @@ fn of_head(h: wal_read::Head, at: usize) -> Head
 
 // The same without its fields: no table is moved.
 #[no_mangle]
-pub extern "C" fn bitbox_reader_head(log: &[u8], at: usize) -> Head
-    ensures { λ r. ⌜ r ≡ headWords (headOf (nextAt (now (log .entry)) at)) at ⌝ }
+pub extern "C" fn bitbox_reader_head(log: &[u8], at: usize, edition: u32) -> Head
+    ensures { λ r. ⌜ r ≡ headWords (headOf (nextAt (editionOf edition) (now (log .entry)) at)) at ⌝ }
 {
-    of_head(wal_read::head_at(log, at), at)
+    let ed = edition_of(edition);
+    of_head(wal_read::head_at(log, at, ed), at)
 }
 
 fn entry_refusal(w: wal_read::What) -> u64
@@ -891,10 +974,11 @@ fn entry_bucket(w: wal_read::What) -> u64
 
 // Begins a log, in any state: 13.
 #[no_mangle]
-pub extern "C" fn bitbox_begin(log: &mut [u8], w: WriterState, sync_seqn: u32) -> Written
-    ensures { λ r. ⌜ (r ≡ writtenWords (beginAnswer (now (log .entry))) (beginWriter (now (log .entry)) (writerOf w))) × (now (log .exit) ≡ beginLog (now (log .entry)) «sync_seqn») ⌝ }
+pub extern "C" fn bitbox_begin(log: &mut [u8], w: WriterState, start: LogStart) -> Written
+    ensures { λ r. ⌜ (r ≡ writtenWords (beginAnswer (now (log .entry))) (beginWriter (now (log .entry)) (writerOf w) (logStart start .edition))) × (now (log .exit) ≡ beginLog (now (log .entry)) (logStart start)) ⌝ }
 {
-    of_written(wal_write::begin(log, writer_of(w), sync_seqn))
+    let s = log_start_of(start);
+    of_written(wal_write::begin(log, writer_of(w), s))
 }
 
 // Writes that a bucket is cleared: 12, 13.
@@ -983,12 +1067,13 @@ fn of_state(st: sync::SyncState) -> StepState
     }
 }
 
-fn start_of(n: usize, w: WriterState, sync_seqn: u32) -> sync::SyncStart
-    ensures { λ r. ⌜ r ≡ syncStart n w «sync_seqn» ⌝ }
+fn start_of(n: usize, w: WriterState, start: LogStart) -> sync::SyncStart
+    ensures { λ r. ⌜ r ≡ syncStart n w start ⌝ }
 {
+    let log_start = log_start_of(start);
     sync::SyncStart {
         n,
-        sync_seqn,
+        log_start,
         writer: writer_of(w),
     }
 }
@@ -1004,42 +1089,52 @@ pub extern "C" fn bitbox_sync(
     changes: &[Change],
     n: usize,
     w: WriterState,
-    sync_seqn: u32,
+    start: LogStart,
 ) -> SyncAnswer
-    ensures { λ r. ⌜ SyncExport n (memOf (now (tags .entry)) (now (marks .entry)) (now (cells .entry)) (now (log .entry))) (now (pages .entry)) (now (changes .entry)) «sync_seqn» w r (memOf (now (tags .exit)) (now (marks .exit)) (now (cells .exit)) (now (log .exit))) ⌝ }
+    ensures { λ r. ⌜ SyncExport n (memOf (now (tags .entry)) (now (marks .entry)) (now (cells .entry)) (now (log .entry))) (now (pages .entry)) (now (changes .entry)) start w r (memOf (now (tags .exit)) (now (marks .exit)) (now (cells .exit)) (now (log .exit))) ⌝ }
 {
-    let start = start_of(n, w, sync_seqn);
-    of_sync(sync::sync(tags, marks, cells, log, pages, changes, start))
+    let begins = start_of(n, w, start);
+    of_sync(sync::sync(tags, marks, cells, log, pages, changes, begins))
 }
 
 // ---- replay
 
-// Replays a log on an image, with a hash for each update: 1, 5, 7, then 6, 8, 4, 9, and 2.
+// Replays a log on an image of a store, with a hash for each update: 1, 5, 7, 26, then 6, 8, 4, 9, and 2.
 #[no_mangle]
 pub extern "C" fn bitbox_replay(
     image: &mut [u8],
     n: usize,
     log: &[u8],
     sync_seqn: u32,
+    seed: &[u8; 16],
     hashes: &[u64],
 ) -> Answer
-    ensures { λ r. ⌜ (r ≡ replayWords (replayAnswer n (now (image .entry)) (now (log .entry)) «sync_seqn» (now (hashes .entry)))) × (now (image .exit) ≡ replayImage n (now (image .entry)) (now (log .entry)) «sync_seqn» (now (hashes .entry))) ⌝ }
+    ensures { λ r. ⌜ (r ≡ replayWords (replayAnswer n (now (image .entry)) (now (log .entry)) (expected «sync_seqn» (now (seed .entry))) (now (hashes .entry)))) × (now (image .exit) ≡ replayImage n (now (image .entry)) (now (log .entry)) (expected «sync_seqn» (now (seed .entry))) (now (hashes .entry))) ⌝ }
 {
-    of_recovered(recover::recover(image, n, log, sync_seqn, hashes))
+    let want = expected_of(sync_seqn, *seed);
+    of_recovered(recover::recover(image, n, log, want, hashes))
 }
 
-// One entry of it: 1, 6, 8, 4, 9.
+fn expected_of(sync: u32, seed: [u8; 16]) -> recover::Expected
+    ensures { λ r. ⌜ r ≡ expected sync seed ⌝ }
+{
+    recover::Expected { sync, seed }
+}
+
+// One entry of it, from a log of an edition: 1, 6, 8, 4, 9.
 #[no_mangle]
 pub extern "C" fn bitbox_replay_step(
     image: &mut [u8],
     n: usize,
     log: &[u8],
+    edition: u32,
     at: usize,
     hash: u64,
 ) -> Stepped
-    ensures { λ r. ⌜ (r ≡ wentWords (stepAnswer n (now (image .entry)) (now (log .entry)) at) at) × (now (image .exit) ≡ stepImage n (now (image .entry)) (now (log .entry)) at hash) ⌝ }
+    ensures { λ r. ⌜ (r ≡ wentWords (stepAnswer n (now (image .entry)) (editionOf edition) (now (log .entry)) at) at) × (now (image .exit) ≡ stepImage n (now (image .entry)) (editionOf edition) (now (log .entry)) at hash) ⌝ }
 {
-    of_stepped(recover::apply_entry(image, n, log, at, hash), at)
+    let ed = edition_of(edition);
+    of_stepped(recover::apply_entry(image, n, log, ed, at, hash), at)
 }
 
 // ---- growth and audit

@@ -13,6 +13,7 @@ use Rattle.probe.specs.Path.{Probe, emptyAt, tombstoneAt, hitAt, closed, probin
 use Rattle.recover.specs.Replay.{Did, nothing, stale, applied}
 use Rattle.recover.proofs.Examples.{clearedUnder, replays}
 use Rattle.rehash.specs.Marker.{writeAnswer, writtenMarker}
+use Rattle.wal.specs.Log.{editionOne}
 use Rattle.wal.specs.declared.Writer.the-variants.{Fresh}
 use Rattle.wal_write.proofs.Examples.{At, begun, allCleared, nextClear, allTaken, clears-by-hand}
 
@@ -47,7 +48,7 @@ marked-by old new = say (λ u. writtenMarker old new) (writeAnswer old new)
 
 -- "capacity 4,096: 454 clears fit, the next is 13": that all are taken, and what the next one answers
 abbrev started : At
-started = begun (record { writer = Fresh; log = replicate 4096 0 }) 7
+started = begun (record { writer = Fresh; log = replicate 4096 0 }) (editionOne 7)
 
 abbrev clears : List ℕ → List ℕ
 clears buckets = one (allTaken started buckets) ∷ say (λ u. []) (nextClear (allCleared started buckets))

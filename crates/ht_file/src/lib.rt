@@ -146,22 +146,3 @@ pub fn meta_bytes_index(ix: u64) -> u64
 {
     ix
 }
-
-// The same two questions where the caller has its own refusal.
-pub fn tags_fit(n: usize, len: usize) -> bool
-    ensures { λ r. ⌜ r ≡ tagsFit n len ⌝ }
-{
-    if count_allowed(n) {
-        return len == page_start(n, 0);
-    }
-    false
-}
-
-pub fn image_fits(n: usize, len: usize) -> bool
-    ensures { λ r. ⌜ r ≡ imageFits n len ⌝ }
-{
-    if count_allowed(n) {
-        return len == page_start(n, n);
-    }
-    false
-}

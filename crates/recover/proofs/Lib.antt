@@ -11,3 +11,4 @@ pub mod Runs
 pub mod Replays
 pub mod OneAnswer
 pub mod Examples
+pub mod Stores

@@ -11,67 +11,82 @@ use types.Run.{OneOf}
 use denote.Enum.Declared.{tagOf}
 use borrow.Author.Tests.{eq-eqb, ne-eqb}
 use Rattle.answers.specs.Answers.{Answer, given, refused}
-use Rattle.ht_file.specs.Places.{imageFits}
+use Rattle.ht_file.specs.Places.{imageFits, ifTable}
+use Rattle.ht_file.proofs.Laws.{table-unfit}
 use Rattle.wal.specs.Reader.{startOf}
-use Rattle.recover.specs.Replay.{Did, nothing, stale, applied, checkAnswer, afterStart, replayTests, imageBy, recoveredSaid}
+use Rattle.recover.specs.declared.Expected.{Expected}
+use Rattle.recover.specs.Replay.{Did, nothing, stale, applied, checkAnswer, ofStore, bySync, afterStart, replayTests, imageBy, recoveredSaid}
 use Rattle.recover.specs.declared.Recovered.{Recovered}
 use Rattle.recover.specs.declared.Recovered.the-variants as R
 use Rattle.recover.proofs.Recovered as RecoveredT
 
-module _ (n image : ℕ) (log : List ℕ) (sync hashes : ℕ) where
-  abbrev began : Answer Did
-  began = afterStart (startOf log) sync (checkAnswer n log hashes)
+-- "26, log of another store, after 7 and before stale"; another sync number, a bad entry, and neither
+module _ (n : ℕ) (log : List ℕ) (s : ℕ) (want : Expected) (hashes : ℕ) where
+  abbrev after : Answer Did
+  after = afterStart (given s) log want (checkAnswer n log hashes)
 
-  pub replay-unfit : imageFits n image ≡ false → refused 1 ≡ replayTests n image log sync hashes
+  pub other-store : ofStore log (want .seed) ≡ false → refused 26 ≡ afterStart (given s) log want (checkAnswer n log hashes)
+  other-store e = sym (ap (λ (t : Bool). cond t (bySync (eqb s (want .sync)) (checkAnswer n log hashes)) (refused 26)) e)
+
+  module _ (of : ofStore log (want .seed) ≡ true) where
+    in-store : after ≡ bySync (eqb s (want .sync)) (checkAnswer n log hashes)
+    in-store = ap (λ (t : Bool). cond t (bySync (eqb s (want .sync)) (checkAnswer n log hashes)) (refused 26)) of
+
+    pub other-sync : (s ≡ want .sync → ⊥) → given stale ≡ afterStart (given s) log want (checkAnswer n log hashes)
+    other-sync d = sym (in-store ∙ ap (λ (t : Bool). bySync t (checkAnswer n log hashes)) (ne-eqb s (want .sync) d) ∙ go (checkAnswer n log hashes))
+      where
+        go : (c : Answer (Unit {0})) → bySync false c ≡ given stale
+        go (given u) = refl
+        go (refused m) = refl
+
+    module _ (same : s ≡ want .sync) where
+      pub bad-entry : (k : ℕ) → checkAnswer n log hashes ≡ refused k → refused k ≡ afterStart (given s) log want (checkAnswer n log hashes)
+      bad-entry k e = sym (in-store ∙ ap₂ bySync (eq-eqb s (want .sync) same) e)
+
+      pub all-good : checkAnswer n log hashes ≡ given tt → given applied ≡ afterStart (given s) log want (checkAnswer n log hashes)
+      all-good e = sym (in-store ∙ ap₂ bySync (eq-eqb s (want .sync) same) e)
+
+module _ (n image : ℕ) (log : List ℕ) (want : Expected) (hashes : ℕ) where
+  abbrev began : Answer Did
+  began = afterStart (startOf log) log want (checkAnswer n log hashes)
+
+  pub replay-unfit : (m : ℕ) → ifTable {A = Unit {0}} (imageFits n image) (given tt) ≡ refused m → refused m ≡ replayTests n image log want hashes
   unfolding replayTests
-  replay-unfit e = sym (ap (λ (t : Bool). cond t (cond (eqb (length log) 0) (given nothing) began) (refused 1)) e)
+  replay-unfit m e = table-unfit (imageFits n image) m (cond (eqb (length log) 0) (given nothing) began) e
 
   module _ (fits : imageFits n image ≡ true) where
-    fitting : replayTests n image log sync hashes ≡ cond (eqb (length log) 0) (given nothing) began
+    fitting : replayTests n image log want hashes ≡ cond (eqb (length log) 0) (given nothing) began
     unfolding replayTests
     fitting = ap (λ (t : Bool). cond t (cond (eqb (length log) 0) (given nothing) began) (refused 1)) fits
 
-    pub replay-empty : length log ≡ 0 → given nothing ≡ replayTests n image log sync hashes
+    pub replay-empty : length log ≡ 0 → given nothing ≡ replayTests n image log want hashes
     replay-empty e = sym (fitting ∙ ap (λ (t : Bool). cond t (given nothing) began) (eq-eqb (length log) 0 e))
 
-    module _ (some : length log ≡ 0 → ⊥) where
-      started : replayTests n image log sync hashes ≡ began
-      started = fitting ∙ ap (λ (t : Bool). cond t (given nothing) began) (ne-eqb (length log) 0 some)
-
-      pub replay-start : (k : ℕ) → startOf log ≡ refused k → refused k ≡ replayTests n image log sync hashes
-      replay-start k e = sym (started ∙ ap (λ (s : Answer ℕ). afterStart s sync (checkAnswer n log hashes)) e)
-
-      pub replay-stale : (s : ℕ) → startOf log ≡ given s → (s ≡ sync → ⊥) → given stale ≡ replayTests n image log sync hashes
-      replay-stale s e d = sym (started ∙ ap (λ (x : Answer ℕ). afterStart x sync (checkAnswer n log hashes)) e ∙ go (checkAnswer n log hashes))
-        where
-          go : (c : Answer (Unit {0})) → afterStart (given s) sync c ≡ given stale
-          go (given u) = ap (λ (t : Bool). cond t (given applied) (given stale)) (ne-eqb s sync d)
-          go (refused m) = ap (λ (t : Bool). cond t (refused m) (given stale)) (ne-eqb s sync d)
-
-      module _ (s : ℕ) (start : startOf log ≡ given s) (same : s ≡ sync) where
-        pub replay-refused : (k : ℕ) → checkAnswer n log hashes ≡ refused k → refused k ≡ replayTests n image log sync hashes
-        replay-refused k e =
-            sym (started ∙ ap₂ (λ (x : Answer ℕ) (c : Answer (Unit {0})). afterStart x sync c) start e ∙ ap (λ (t : Bool). cond t (refused k) (given stale)) (eq-eqb s sync same))
-
-        pub replay-applied : checkAnswer n log hashes ≡ given tt → given applied ≡ replayTests n image log sync hashes
-        replay-applied e =
-            sym (started ∙ ap₂ (λ (x : Answer ℕ) (c : Answer (Unit {0})). afterStart x sync c) start e ∙ ap (λ (t : Bool). cond t (given applied) (given stale)) (eq-eqb s sync same))
+    -- by what the start answers
+    pub replay-started : (length log ≡ 0 → ⊥) → (a : Answer ℕ) → startOf log ≡ a → afterStart a log want (checkAnswer n log hashes) ≡ replayTests n image log want hashes
+    replay-started some a e =
+        sym (fitting ∙ ap (λ (t : Bool). cond t (given nothing) began) (ne-eqb (length log) 0 some) ∙ ap (λ (x : Answer ℕ). afterStart x log want (checkAnswer n log hashes)) e)
 
 -- `applied` is answered only where the image is a table's and the whole log was checked
-pub applied-told : (n image : ℕ) (log : List ℕ) (sync hashes : ℕ) → replayTests n image log sync hashes ≡ given applied
+pub applied-told : (n image : ℕ) (log : List ℕ) (want : Expected) (hashes : ℕ) → replayTests n image log want hashes ≡ given applied
     → (imageFits n image ≡ true) × (checkAnswer n log hashes ≡ given tt)
 unfolding replayTests
-applied-told n image log sync hashes ok =
+applied-told n image log want hashes ok =
     go (imageFits n image) refl (eqb (length log) 0) (startOf log) (checkAnswer n log hashes) refl ok
   where
-    not-refused : (t : Bool) (k : ℕ) → cond t (refused k) (given stale) ≡ given applied → ⊥
-    not-refused true k e = let z : _≡_ {A = ℕ} 0 1 = cc in omega arith
-    not-refused false k e = let z : _≡_ {A = ℕ} 0 1 = cc in omega arith
+    synced : (t : Bool) (c : Answer (Unit {0})) → checkAnswer n log hashes ≡ c → bySync t c ≡ given applied → checkAnswer n log hashes ≡ given tt
+    synced true (given tt) q e = q
+    synced false (given tt) q e = let z : _≡_ {A = ℕ} 0 1 = cc in absurd (omega arith)
+    synced true (refused k) q e = let z : _≡_ {A = ℕ} 0 1 = cc in absurd (omega arith)
+    synced false (refused k) q e = let z : _≡_ {A = ℕ} 0 1 = cc in absurd (omega arith)
+
+    stored : (o : Bool) (s : ℕ) (c : Answer (Unit {0})) → checkAnswer n log hashes ≡ c → cond o (bySync (eqb s (want .sync)) c) (refused 26) ≡ given applied → checkAnswer n log hashes ≡ given tt
+    stored true s c q e = synced (eqb s (want .sync)) c q e
+    stored false s c q e = let z : _≡_ {A = ℕ} 0 1 = cc in absurd (omega arith)
 
     go : (f : Bool) → imageFits n image ≡ f → (z : Bool) (s : Answer ℕ) (c : Answer (Unit {0})) → checkAnswer n log hashes ≡ c
-        → cond f (cond z (given nothing) (afterStart s sync c)) (refused 1) ≡ given applied → (imageFits n image ≡ true) × (checkAnswer n log hashes ≡ given tt)
-    go true p false (given s) (given tt) q e = (p, q)
-    go true p false (given s) (refused k) q e = absurd (not-refused (eqb s sync) k e)
+        → cond f (cond z (given nothing) (afterStart s log want c)) (refused 1) ≡ given applied → (imageFits n image ≡ true) × (checkAnswer n log hashes ≡ given tt)
+    go true p false (given s) c q e = (p, stored (ofStore log (want .seed)) s c q e)
     go true p false (refused k) c q e = let z : _≡_ {A = ℕ} 0 1 = cc in absurd (omega arith)
     go true p true s c q e = let z : _≡_ {A = ℕ} 0 1 = cc in absurd (omega arith)
     go false p z s c q e = let y : _≡_ {A = ℕ} 0 1 = cc in absurd (omega arith)

@@ -17,7 +17,8 @@ use Rattle.answers.specs.Answers.{Answer, given, refused, accepted}
 use Rattle.answers.specs.Refusals.{numberOf}
 use Rattle.blocks.specs.Blocks.{put}
 use Rattle.blocks.proofs.Laws.{put-in, put-left, put-right, put-length, tabulate-length, tabulate-getD, tabulate-is}
-use Rattle.ht_file.specs.Places.{imageFits, imageLength, pageStart}
+use Rattle.ht_file.specs.Places.{imageFits, imageLength, pageStart, ifTable}
+use Rattle.ht_file.proofs.Laws.{table-unfit}
 use Rattle.meta_map.specs.Tags.{fullTag}
 use Rattle.page_diff.specs.Diff.{marked}
 use Rattle.wal.specs.Log.{Entry, clear, update}
@@ -27,30 +28,31 @@ use Rattle.wal_read.specs.declared.Head.{Head}
 use Rattle.wal_read.specs.declared.Head.the-variants as head
 use Rattle.wal_read.proofs.Head as HeadT
 use Rattle.wal_read.proofs.ReadLaws.{head-end, head-stop}
+use Rattle.wal.specs.declared.Edition.{Edition}
 use Rattle.recover.specs.Places.{Step, entryNames, entryGives, names, gives, inPage, pageNamed, pageGives, pageAfter, stepped}
 use Rattle.recover.specs.Replay.{bucketOf, Went, wentTo, byNext, stepAnswer, stepBy, stepImage}
 use Rattle.recover.specs.InnerStops.{stepStop}
 
 -- ---- the answer, test by test
-module _ (n : ℕ) (image log : List ℕ) (at h : ℕ) where
+module _ (n : ℕ) (image : List ℕ) (ed : Edition) (log : List ℕ) (at h : ℕ) where
   -- the table is unfit
-  pub step-unfit : imageFits n (length image) ≡ false → (refused 1 ≡ stepAnswer n image log at) × (image ≡ stepImage n image log at h)
+  pub step-unfit : (m : ℕ) → ifTable {A = Unit {0}} (imageFits n (length image)) (given tt) ≡ refused m → (refused m ≡ stepAnswer n image ed log at) × (image ≡ stepImage n image ed log at h)
   unfolding stepAnswer stepImage
-  step-unfit e =
-      let a : stepAnswer n image log at ≡ refused 1 = ap (λ (t : Bool). cond t (byNext n (nextAt log at)) (refused 1)) e in
-      (sym a, sym (ap (λ (x : Answer Went). cond (accepted x) (stepBy n (nextAt log at) h image) image) a))
+  step-unfit m e =
+      let a : refused m ≡ stepAnswer n image ed log at = table-unfit (imageFits n (length image)) m (byNext n (nextAt ed log at)) e in
+      (a, ap (λ (x : Answer Went). cond (accepted x) (stepBy n (nextAt ed log at) h image) image) a)
 
   module _ (fits : imageFits n (length image) ≡ true) where
-    pub by-next : (x : Next) → nextAt log at ≡ x → stepAnswer n image log at ≡ byNext n x
+    pub by-next : (x : Next) → nextAt ed log at ≡ x → stepAnswer n image ed log at ≡ byNext n x
     unfolding stepAnswer
-    by-next x e = ap (λ (t : Bool). cond t (byNext n (nextAt log at)) (refused 1)) fits ∙ ap (byNext n) e
+    by-next x e = ap (λ (t : Bool). cond t (byNext n (nextAt ed log at)) (refused 1)) fits ∙ ap (byNext n) e
 
-    pub image-by : (x : Next) → nextAt log at ≡ x → stepImage n image log at h ≡ cond (accepted (byNext n x)) (stepBy n x h image) image
+    pub image-by : (x : Next) → nextAt ed log at ≡ x → stepImage n image ed log at h ≡ cond (accepted (byNext n x)) (stepBy n x h image) image
     unfolding stepImage
     image-by x e = ap₂ (λ (a : Answer Went) (y : Next). cond (accepted a) (stepBy n y h image) image) (by-next x e) e
 
     -- an entry outside the table
-    pub step-outside : (e : Entry) (p : ℕ) → nextAt log at ≡ next e p → n ≤ bucketOf e → (refused 9 ≡ stepAnswer n image log at) × (image ≡ stepImage n image log at h)
+    pub step-outside : (e : Entry) (p : ℕ) → nextAt ed log at ≡ next e p → n ≤ bucketOf e → (refused 9 ≡ stepAnswer n image ed log at) × (image ≡ stepImage n image ed log at h)
     step-outside e p q l =
         let t : ltb (bucketOf e) n ≡ false = le-ltb (bucketOf e) n l in (
           sym (by-next (next e p) q ∙ ap (λ (b : Bool). cond b (given (wentTo e p)) (refused 9)) t),
@@ -58,7 +60,7 @@ module _ (n : ℕ) (image log : List ℕ) (at h : ℕ) where
         )
 
     -- an entry inside it
-    pub step-taken : (e : Entry) (p : ℕ) → nextAt log at ≡ next e p → bucketOf e < n → (given (wentTo e p) ≡ stepAnswer n image log at) × (stepped n (record { entry = e; hash = h }) image ≡ stepImage n image log at h)
+    pub step-taken : (e : Entry) (p : ℕ) → nextAt ed log at ≡ next e p → bucketOf e < n → (given (wentTo e p) ≡ stepAnswer n image ed log at) × (stepped n (record { entry = e; hash = h }) image ≡ stepImage n image ed log at h)
     step-taken e p q l =
         let t : ltb (bucketOf e) n ≡ true = lt-ltb (bucketOf e) n l in (
           sym (by-next (next e p) q ∙ ap (λ (b : Bool). cond b (given (wentTo e p)) (refused 9)) t),
@@ -66,8 +68,8 @@ module _ (n : ℕ) (image log : List ℕ) (at h : ℕ) where
         )
 
     -- where the reading stops
-    pub step-stop : (x : Head) → headSaid x ≡ headOf (nextAt log at) → OneOf (1 ∷ 2 ∷ 3 ∷ []) (tagOf HeadT.the-type x) → OneOf (0 ∷ 2 ∷ 3 ∷ []) (tagOf HeadT.the-type x)
-        → (stepStop (headSaid x) ≡ stepAnswer n image log at) × (image ≡ stepImage n image log at h)
+    pub step-stop : (x : Head) → headSaid x ≡ headOf (nextAt ed log at) → OneOf (1 ∷ 2 ∷ 3 ∷ []) (tagOf HeadT.the-type x) → OneOf (0 ∷ 2 ∷ 3 ∷ []) (tagOf HeadT.the-type x)
+        → (stepStop (headSaid x) ≡ stepAnswer n image ed log at) × (image ≡ stepImage n image ed log at h)
     step-stop (head.Clear b p) e o q = absurd (none 0 refl o)
       where
         none : (t : ℕ) → t ≡ 0 → (t ≡ 1) ⊎ ((t ≡ 2) ⊎ (t ≡ 3)) → ⊥
@@ -77,9 +79,9 @@ module _ (n : ℕ) (image log : List ℕ) (at h : ℕ) where
         none : (t : ℕ) → t ≡ 1 → (t ≡ 0) ⊎ ((t ≡ 2) ⊎ (t ≡ 3)) → ⊥
         none t z = ⊎-elim (λ (y : t ≡ 0). omega arith) (⊎-elim (λ (y : t ≡ 2). omega arith) (λ (y : t ≡ 3). omega arith))
     step-stop head.End e o q =
-        let s = head-end (nextAt log at) e in (sym (by-next ended s), sym (image-by ended s))
+        let s = head-end (nextAt ed log at) e in (sym (by-next ended s), sym (image-by ended s))
     step-stop (head.Refused r) e o q =
-        let s = head-stop (nextAt log at) (numberOf r) e in (sym (by-next (stopped (numberOf r)) s), sym (image-by (stopped (numberOf r)) s))
+        let s = head-stop (nextAt ed log at) (numberOf r) e in (sym (by-next (stopped (numberOf r)) s), sym (image-by (stopped (numberOf r)) s))
 
 -- ---- the bytes: what is equal at each place to the definition is it
 stepped-is : (n : ℕ) (s : Step) (image out : List ℕ) → length out ≡ length image → ((j : ℕ) → j < length image → getD out j 0 ≡ cond (names n s j) (gives n s j) (getD image j 0)) → out ≡ stepped n s image

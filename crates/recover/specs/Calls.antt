@@ -5,6 +5,7 @@ use Prim.Native.Nat.{ℕ, zero, suc, _+_}
 use lib.ListN.{getD}
 use Rattle.answers.specs.Answers.{Answer, given, refused}
 use Rattle.wal.specs.Log.{startSize}
+use Rattle.wal.specs.Reader.{editionAt}
 use Rattle.recover.specs.Replay.{Went, cleared, updated, atEnd, stepAnswer, stepImage, Mix}
 
 -- where the calls stand: the image, the position last answered, and how many updates have had their hash
@@ -23,11 +24,11 @@ movedBy (refused k) image w = record { image = image; at = w .at; used = w .used
 -- one call of `apply_entry`, by its promise, with the hash of its update (a clear looks at none)
 abbrev pub called : ℕ → List ℕ → List ℕ → Stand → Stand
 called n log hashes w =
-    movedBy (stepAnswer n (w .image) log (w .at)) (stepImage n (w .image) log (w .at) (getD hashes (w .used) 0)) w
+    movedBy (stepAnswer n (w .image) (editionAt log) log (w .at)) (stepImage n (w .image) (editionAt log) log (w .at) (getD hashes (w .used) 0)) w
 
 -- so many calls on an image, from the first entry on
 unfoldable pub calls : ℕ → List ℕ → List ℕ → List ℕ → ℕ → Stand
-calls n log hashes image zero = record { image = image; at = startSize; used = 0 }
+calls n log hashes image zero = record { image = image; at = startSize (editionAt log); used = 0 }
 calls n log hashes image (suc k) = called n log hashes (calls n log hashes image k)
 
 -- "stops at any byte, any number of times": the table; and, k calls after a start on such an image, what a stop inside

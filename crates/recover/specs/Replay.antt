@@ -1,4 +1,4 @@
--- 01, 'Replay' and its order: what replay answers, and the image it leaves. Assumes nothing.
+-- 01, 'Replay' and its order, and 02, W-207: what replay answers, and the image it leaves. Assumes nothing.
 use mathlib.Core.Path.{_≡_}
 use mathlib.Core.Logic.{_⊎_}
 use mathlib.Core.Bool.{Bool, true, false, cond, _&&_}
@@ -8,10 +8,15 @@ use lib.Dec.{ltb, eqb}
 use lib.ListN.{length, getD, take}
 use Rattle.answers.specs.Answers.{Answer, given, refused, accepted}
 use Rattle.answers.specs.Refusals.{numberOf}
-use Rattle.ht_file.specs.Places.{imageFits}
+use Rattle.blocks.specs.Blocks.{sameBytes}
+use Rattle.ht_file.specs.Places.{imageFits, ifTable}
 use Rattle.wal.specs.Log.{Entry, clear, update}
-use Rattle.wal.specs.Reader.{startOf, Next, next, ended, stopped, nextAt, Reading, readLog}
+use Rattle.wal.specs.Reader.{editionAt, startOf, seedOf, Next, next, ended, stopped, nextAt, Reading, readLog}
+use Rattle.wal.specs.declared.Edition.{Edition}
+use Rattle.wal.specs.declared.Edition.the-variants.{One, Two}
+use Rattle.wal.specs.declared.Start.{Start}
 use Rattle.recover.specs.Places.{Step, withHashes, replayed, stepped, names, gives, namedIn}
+use Rattle.recover.specs.declared.Expected.{Expected}
 use Rattle.recover.specs.declared.Stepped.{Stepped}
 use Rattle.recover.specs.declared.Recovered.{Recovered}
 use Rattle.recover.specs.declared.Stepped.the-variants as S
@@ -53,20 +58,31 @@ checkOf n hashes r = cond (allInside n (r .entries)) (afterEntries (r .stop) (ha
 unfoldable pub checkAnswer : ℕ → List ℕ → ℕ → Answer (Unit {0})
 checkAnswer n log hashes = checkOf n hashes (readLog log)
 
+-- "Replay is lent the table's seed and refuses another store's log": a log of edition one names no store
+abbrev pub storeIn : Edition → List ℕ → List ℕ → Bool
+storeIn One log seed = true
+storeIn Two log seed = sameBytes (seedOf log) seed
+
+abbrev pub ofStore : List ℕ → List ℕ → Bool
+ofStore log seed = storeIn (editionAt log) log seed
+
 -- "another sync number answers stale, later entries unread"
-abbrev pub afterStart : Answer ℕ → ℕ → Answer (Unit {0}) → Answer Did
-afterStart (refused n) sync check = refused n
-afterStart (given s) sync (given u) = cond (eqb s sync) (given applied) (given stale)
-afterStart (given s) sync (refused n) = cond (eqb s sync) (refused n) (given stale)
+abbrev pub bySync : Bool → Answer (Unit {0}) → Answer Did
+bySync same (given u) = cond same (given applied) (given stale)
+bySync same (refused n) = cond same (refused n) (given stale)
+
+-- after the start of a log: "26, log of another store, after 7 and before stale"
+abbrev pub afterStart : Answer ℕ → List ℕ → Expected → Answer (Unit {0}) → Answer Did
+afterStart (refused n) log want check = refused n
+afterStart (given s) log want check = cond (ofStore log (want .seed)) (bySync (eqb s (want .sync)) check) (refused 26)
 
 -- "Replay: 1, nothing, 5, 7, stale, then the first bad entry .., last the hash count 2": of the lengths of the image and of the hashes
-unfoldable pub replayTests : ℕ → ℕ → List ℕ → ℕ → ℕ → Answer Did
-replayTests n image log sync hashes =
-    cond (imageFits n image) (cond (eqb (length log) 0) (given nothing) (afterStart (startOf log) sync (checkAnswer n log hashes)))
-    (refused 1)
+unfoldable pub replayTests : ℕ → ℕ → List ℕ → Expected → ℕ → Answer Did
+replayTests n image log want hashes =
+    ifTable (imageFits n image) (cond (eqb (length log) 0) (given nothing) (afterStart (startOf log) log want (checkAnswer n log hashes)))
 
-abbrev pub replayAnswer : ℕ → List ℕ → List ℕ → ℕ → List ℕ → Answer Did
-replayAnswer n image log sync hashes = replayTests n (length image) log sync (length hashes)
+abbrev pub replayAnswer : ℕ → List ℕ → List ℕ → Expected → List ℕ → Answer Did
+replayAnswer n image log want hashes = replayTests n (length image) log want (length hashes)
 
 -- the entries of a log with their hashes
 abbrev pub stepsOf : List ℕ → List ℕ → List Step
@@ -79,8 +95,8 @@ imageBy (given stale) image after = image
 imageBy (given applied) image after = after
 imageBy (refused n) image after = image
 
-abbrev pub replayImage : ℕ → List ℕ → List ℕ → ℕ → List ℕ → List ℕ
-replayImage n image log sync hashes = imageBy (replayAnswer n image log sync hashes) image (replayed n (stepsOf log hashes) image)
+abbrev pub replayImage : ℕ → List ℕ → List ℕ → Expected → List ℕ → List ℕ
+replayImage n image log want hashes = imageBy (replayAnswer n image log want hashes) image (replayed n (stepsOf log hashes) image)
 
 -- ---- one entry: "each entry is applied by one step"
 pub data Went : Type 0 where
@@ -97,8 +113,8 @@ byNext n ended = given atEnd
 byNext n (stopped k) = refused k
 
 -- the step at a position: 1, then as in replay
-unfoldable pub stepAnswer : ℕ → List ℕ → List ℕ → ℕ → Answer Went
-stepAnswer n image log at = cond (imageFits n (length image)) (byNext n (nextAt log at)) (refused 1)
+unfoldable pub stepAnswer : ℕ → List ℕ → Edition → List ℕ → ℕ → Answer Went
+stepAnswer n image ed log at = ifTable (imageFits n (length image)) (byNext n (nextAt ed log at))
 
 abbrev pub stepBy : ℕ → Next → ℕ → List ℕ → List ℕ
 stepBy n (next e p) h image = stepped n (record { entry = e; hash = h }) image
@@ -106,8 +122,8 @@ stepBy n ended h image = image
 stepBy n (stopped k) h image = image
 
 -- the image after it: a refusal leaves it
-unfoldable pub stepImage : ℕ → List ℕ → List ℕ → ℕ → ℕ → List ℕ
-stepImage n image log at h = cond (accepted (stepAnswer n image log at)) (stepBy n (nextAt log at) h image) image
+unfoldable pub stepImage : ℕ → List ℕ → Edition → List ℕ → ℕ → ℕ → List ℕ
+stepImage n image ed log at h = cond (accepted (stepAnswer n image ed log at)) (stepBy n (nextAt ed log at) h image) image
 
 -- what each case of the code's answers says
 abbrev pub steppedSaid : Stepped → Answer Went
@@ -121,6 +137,11 @@ recoveredSaid R.Nothing = given nothing
 recoveredSaid R.Stale = given stale
 recoveredSaid R.Applied = given applied
 recoveredSaid (R.Refused r) = refused (numberOf r)
+
+-- "accepted under its own sync number", and for edition two "with equal seeds as a premise": what replay expects of the log of a start
+pub record Own (start : Start) (want : Expected) : Type 0 where
+  pub same-sync : want .sync ≡ start .sync
+  pub same-store : start .edition ≡ Two → want .seed ≡ start .seed
 
 -- demand 3: "an image that differs from that table only in places the log names"
 pub record OnlyNamed (n : ℕ) (ss : List Step) (table image : List ℕ) : Type 0 where

@@ -16,7 +16,7 @@ ghost use Rattle.wal.specs.Log.{updateBody};
 ghost use Rattle.wal.specs.Reader.{diffAt, nodesFrom};
 ghost use Rattle.wal_read.specs.Head.{headSaid};
 ghost use Rattle.recover.specs.Places.{replayed};
-ghost use Rattle.recover.specs.Replay.{checkAnswer, stepAnswer, stepImage, replayTests, replayAnswer, replayImage, stepsOf, steppedSaid, recoveredSaid};
+ghost use Rattle.recover.specs.Replay.{ofStore, checkAnswer, afterStart, stepAnswer, stepImage, replayTests, replayAnswer, replayImage, stepsOf, steppedSaid, recoveredSaid};
 ghost use Rattle.recover.specs.InnerStops.{checkStop, stepStop};
 ghost use Rattle.recover.specs.InnerPage.{pageBy};
 use answers::Number;
@@ -25,7 +25,14 @@ use answers::Refusal;
 use ht_file::PAGE_SIZE;
 use meta_map::TOMBSTONE;
 use page_diff::Diff;
+use wal::Edition;
 use wal_read::Head;
+
+// What replay expects of a log: the sync number, and the seed of the table's store, which a log of edition two names.
+pub struct Expected {
+    pub sync: u32,
+    pub seed: [u8; 16],
+}
 
 // What replay did: nothing, for an empty log; nothing, for the log of another sync; or all of it.
 pub enum Recovered {
@@ -47,10 +54,11 @@ pub enum Stepped {
 pub fn check_log(log: &[u8], n: usize, hashes: usize) -> Outcome
     ensures { λ r. ⌜ outcomeSaid r ≡ checkAnswer n (now (log .entry)) hashes ⌝ }
 {
-    let mut at = wal::START_SIZE;
+    let edition = wal_read::edition_of(log);
+    let mut at = wal::start_size(edition);
     let mut updates: usize = 0;
     loop {
-        let head = wal_read::head_at(log, at);
+        let head = wal_read::head_at(log, at, edition);
         if let Head::Clear { bucket, next } = head {
             if n as u64 <= bucket {
                 return Outcome::Refused(Refusal::BucketOutside);
@@ -151,41 +159,64 @@ fn apply_page(page: &mut [u8], log: &[u8], body: usize, count: usize)
     );
 }
 
-// Applies the entry at a position of the log to the image: a clear writes its bucket's tag, an update its
-// tag, its marked slots and its last 40 bytes. Every other byte stays, and a refusal leaves all.
-pub fn apply_entry(image: &mut [u8], n: usize, log: &[u8], at: usize, hash: u64) -> Stepped
-    ensures { λ r. ⌜ (steppedSaid r ≡ stepAnswer n (now (image .entry)) (now (log .entry)) at) × (now (image .exit) ≡ stepImage n (now (image .entry)) (now (log .entry)) at hash) ⌝ }
+// The same for an image that is the table's: only the log can be refused.
+fn apply_at(
+    image: &mut [u8],
+    n: usize,
+    log: &[u8],
+    edition: Edition,
+    at: usize,
+    hash: u64,
+) -> Stepped
+    requires { ⌜ imageFits n (length (now image)) ≡ true ⌝ }
+    ensures { λ r. ⌜ (steppedSaid r ≡ stepAnswer n (now (image .entry)) edition (now (log .entry)) at) × (now (image .exit) ≡ stepImage n (now (image .entry)) edition (now (log .entry)) at hash) ⌝ }
 {
-    if ht_file::image_fits(n, image.len()) {
-        let head = wal_read::head_at(log, at);
-        if let Head::Clear { bucket, next } = head {
-            if n as u64 <= bucket {
-                return Stepped::Refused(Refusal::BucketOutside);
-            }
-            let b = bucket as usize;
-            write_tag(&mut image[b..b + 1], TOMBSTONE);
-            return Stepped::Cleared(next);
-        }
-        let Head::Update {
-            bucket,
-            count,
-            next,
-        } = head
-        else {
-            return stopped_step(head);
-        };
+    let head = wal_read::head_at(log, at, edition);
+    if let Head::Clear { bucket, next } = head {
         if n as u64 <= bucket {
             return Stepped::Refused(Refusal::BucketOutside);
         }
         let b = bucket as usize;
-        write_tag(&mut image[b..b + 1], meta_map::full_entry(hash));
-        let a = PAGE_SIZE * ((n + 4095) / PAGE_SIZE + b);
-        let e = a + PAGE_SIZE;
-        let body = at + wal::MARK_SIZE;
-        apply_page(&mut image[a..e], log, body, count);
-        return Stepped::Updated(next);
+        write_tag(&mut image[b..b + 1], TOMBSTONE);
+        return Stepped::Cleared(next);
     }
-    Stepped::Refused(Refusal::TableUnfit)
+    let Head::Update {
+        bucket,
+        count,
+        next,
+    } = head
+    else {
+        return stopped_step(head);
+    };
+    if n as u64 <= bucket {
+        return Stepped::Refused(Refusal::BucketOutside);
+    }
+    let b = bucket as usize;
+    write_tag(&mut image[b..b + 1], meta_map::full_entry(hash));
+    let a = ht_file::page_start(n, b);
+    let e = a + PAGE_SIZE;
+    let body = next - (wal::UPDATE_BODY + 32 * count);
+    apply_page(&mut image[a..e], log, body, count);
+    Stepped::Updated(next)
+}
+
+// Applies the entry at a position of a log of an edition to the image: a clear writes its bucket's tag, an update its
+// tag, its marked slots and its last 40 bytes. Every other byte stays, and a refusal leaves all.
+pub fn apply_entry(
+    image: &mut [u8],
+    n: usize,
+    log: &[u8],
+    edition: Edition,
+    at: usize,
+    hash: u64,
+) -> Stepped
+    ensures { λ r. ⌜ (steppedSaid r ≡ stepAnswer n (now (image .entry)) edition (now (log .entry)) at) × (now (image .exit) ≡ stepImage n (now (image .entry)) edition (now (log .entry)) at hash) ⌝ }
+{
+    let fit = ht_file::check_image(n, image.len());
+    if let Outcome::Refused(why) = fit {
+        return Stepped::Refused(why);
+    }
+    apply_at(image, n, log, edition, at, hash)
 }
 
 // The step where the reading stops: the refusal there, or the end.
@@ -203,11 +234,12 @@ fn run(image: &mut [u8], n: usize, log: &[u8], hashes: &[u64])
     requires { ⌜ (imageFits n (length (now image)) ≡ true) × (checkAnswer n (now log) (length (now hashes)) ≡ given tt) ⌝ }
     ensures { λ _. ⌜ now (image .exit) ≡ replayed n (stepsOf (now (log .entry)) (now (hashes .entry))) (now (image .entry)) ⌝ }
 {
-    let mut at = wal::START_SIZE;
+    let edition = wal_read::edition_of(log);
+    let mut at = wal::start_size(edition);
     let mut used: usize = 0;
     loop {
         let hash = hash_at(hashes, used);
-        let step = apply_entry(image, n, log, at, hash);
+        let step = apply_at(image, n, log, edition, at, hash);
         if let Stepped::Cleared(next) = step {
             at = next;
         } else {
@@ -230,40 +262,66 @@ fn hash_at(hashes: &[u64], i: usize) -> u64
     0
 }
 
-// What replay answers, told before a byte is written: 1, nothing, 5, 7, stale, the first bad entry, the hash
-// count. It looks at the lengths of the image and of the hashes alone.
-pub fn check_replay(image_len: usize, n: usize, log: &[u8], sync: u32, hashes: usize) -> Recovered
-    ensures { λ r. ⌜ recoveredSaid r ≡ replayTests n «image_len» (now (log .entry)) sync hashes ⌝ }
+// Whether a log is of the store with this seed: one of edition one names no store, so it is taken for any.
+fn of_store(log: &[u8], seed: [u8; 16]) -> bool
+    ensures { λ r. ⌜ r ≡ ofStore (now (log .entry)) seed ⌝ }
 {
-    if ht_file::image_fits(n, image_len) {
-        if log.len() == 0 {
-            return Recovered::Nothing;
-        }
-        let start = wal_read::set(log);
-        if let Number::Refused(why) = start {
-            return Recovered::Refused(why);
-        }
-        let Number::Is(found) = start else {
-            return Recovered::Stale;
-        };
-        if found != sync as u64 {
-            return Recovered::Stale;
-        }
-        let checked = check_log(log, n, hashes);
-        if let Outcome::Refused(why) = checked {
-            return Recovered::Refused(why);
-        }
-        return Recovered::Applied;
+    let edition = wal_read::edition_of(log);
+    match edition {
+        Edition::One => true,
+        Edition::Two => blocks::same_16(wal_read::seed_of(log), seed),
     }
-    Recovered::Refused(Refusal::TableUnfit)
 }
 
-// Replay: applies a log to the image of a table of n buckets, where the log is of the expected sync and
-// can be applied whole; otherwise the image stays as it is.
-pub fn recover(image: &mut [u8], n: usize, log: &[u8], sync: u32, hashes: &[u64]) -> Recovered
-    ensures { λ r. ⌜ (recoveredSaid r ≡ replayAnswer n (now (image .entry)) (now (log .entry)) sync (now (hashes .entry))) × (now (image .exit) ≡ replayImage n (now (image .entry)) (now (log .entry)) sync (now (hashes .entry))) ⌝ }
+// What replay answers once the start is read: 26, stale, the first bad entry, the hash count.
+fn check_started(log: &[u8], n: usize, found: u64, want: Expected, hashes: usize) -> Recovered
+    ensures { λ r. ⌜ recoveredSaid r ≡ afterStart (given found) (now (log .entry)) want (checkAnswer n (now (log .entry)) hashes) ⌝ }
 {
-    let answer = check_replay(image.len(), n, log, sync, hashes.len());
+    let seed = want.seed;
+    if !of_store(log, seed) {
+        return Recovered::Refused(Refusal::OtherStore);
+    }
+    if found != want.sync as u64 {
+        return Recovered::Stale;
+    }
+    let checked = check_log(log, n, hashes);
+    match checked {
+        Outcome::Done => Recovered::Applied,
+        Outcome::Refused(why) => Recovered::Refused(why),
+    }
+}
+
+// What replay answers, told before a byte is written: 1, nothing, 5, 7, 26, stale, the first bad entry, the hash
+// count. It looks at the lengths of the image and of the hashes alone.
+pub fn check_replay(
+    image_len: usize,
+    n: usize,
+    log: &[u8],
+    want: Expected,
+    hashes: usize,
+) -> Recovered
+    ensures { λ r. ⌜ recoveredSaid r ≡ replayTests n «image_len» (now (log .entry)) want hashes ⌝ }
+{
+    let fit = ht_file::check_image(n, image_len);
+    if let Outcome::Refused(why) = fit {
+        return Recovered::Refused(why);
+    }
+    if log.len() == 0 {
+        return Recovered::Nothing;
+    }
+    let start = wal_read::set(log);
+    match start {
+        Number::Is(found) => check_started(log, n, found, want, hashes),
+        Number::Refused(why) => Recovered::Refused(why),
+    }
+}
+
+// Replay: applies a log to the image of a table of n buckets, where the log is of the table's store and of the expected
+// sync and can be applied whole; otherwise the image stays as it is.
+pub fn recover(image: &mut [u8], n: usize, log: &[u8], want: Expected, hashes: &[u64]) -> Recovered
+    ensures { λ r. ⌜ (recoveredSaid r ≡ replayAnswer n (now (image .entry)) (now (log .entry)) want (now (hashes .entry))) × (now (image .exit) ≡ replayImage n (now (image .entry)) (now (log .entry)) want (now (hashes .entry))) ⌝ }
+{
+    let answer = check_replay(image.len(), n, log, want, hashes.len());
     let Recovered::Applied = answer else {
         return answer;
     };

@@ -14,7 +14,7 @@ use Rattle.ht_file.proofs.Laws.{both-hold}
 use Rattle.page_diff.specs.Diff.{countOf}
 use Rattle.probe.specs.Path.{allocating}
 use Rattle.wal.specs.Log.{markSize, clearSize, updateSize}
-use Rattle.wal.specs.Writer.{position, capacity, ifOpen}
+use Rattle.wal.specs.Writer.{position, capacity, ifOpen, editionOf}
 use Rattle.wal.specs.declared.Writer.{Writer}
 use Rattle.wal.specs.declared.Writer.the-variants.{Fresh, Open, Finished}
 use Rattle.sync.specs.Change.{Mem, Does, clears, updates, allocates, doesOf, Effect, cleared, updated, allocated, byBucket, afterDoes, effectOf}
@@ -25,7 +25,7 @@ opens : (f g : Bool) (w : Writer) (a : Answer Effect) (e : Effect) → cond f (c
 opens false g w a e h = absurd (given-refused e 1 (sym h))
 opens true false w a e h = absurd (given-refused e 2 (sym h))
 opens true true Fresh a e h = absurd (given-refused e 12 (sym h))
-opens true true (Open p) a e h = (refl, refl, h)
+opens true true (Open p ed) a e h = (refl, refl, h)
 opens true true (Finished n) a e h = absurd (given-refused e 12 (sym h))
 
 with-room : (r : Bool) (a : Answer Effect) (e : Effect) → cond r a (refused 13) ≡ given e → (r ≡ true) × (a ≡ given e)
@@ -47,18 +47,18 @@ the-bucket (refused k) b h = absurd (given-refused (allocated b) k (sym h))
 
 module _ (st : SyncState) (m : Mem) (c : Change) where
   abbrev pub room : ℕ → Bool
-  room size = leb (position (st .writer) + size + markSize) (capacity (m .log))
+  room size = leb (position (st .writer) + size + markSize (editionOf (st .writer))) (capacity (m .log))
 
   abbrev big : ℕ
-  big = updateSize (countOf (c .diff .words))
+  big = updateSize (editionOf (st .writer)) (countOf (c .diff .words))
 
   abbrev found : Answer ℕ
   found = allocating (st .limit) (m .tags) (st .n) (c .hash)
 
-  pub after-cleared : (a : Answer Does) (b : ℕ) → afterDoes st m c a ≡ given (cleared b) → (a ≡ given (clears b)) × (room clearSize ≡ true)
+  pub after-cleared : (a : Answer Does) (b : ℕ) → afterDoes st m c a ≡ given (cleared b) → (a ≡ given (clears b)) × (room (clearSize (editionOf (st .writer))) ≡ true)
   after-cleared (refused k) b h = absurd (given-refused (cleared b) k (sym h))
   after-cleared (given (clears x)) b h =
-      let w = with-room (room clearSize) (given (cleared x)) (cleared b) h in
+      let w = with-room (room (clearSize (editionOf (st .writer)))) (given (cleared x)) (cleared b) h in
       let z : given (cleared x) ≡ given (cleared b) = w .1 in
       let y : x ≡ b = cc in (ap (λ (i : ℕ). given (clears i)) y, w .0)
   after-cleared (given (updates x)) b h =
@@ -69,7 +69,7 @@ module _ (st : SyncState) (m : Mem) (c : Change) where
   pub after-updated : (a : Answer Does) (b : ℕ) → afterDoes st m c a ≡ given (updated b) → (a ≡ given (updates b)) × (room big ≡ true)
   after-updated (refused k) b h = absurd (given-refused (updated b) k (sym h))
   after-updated (given (clears x)) b h =
-      let z : given (cleared x) ≡ given (updated b) = with-room (room clearSize) (given (cleared x)) (updated b) h .1 in
+      let z : given (cleared x) ≡ given (updated b) = with-room (room (clearSize (editionOf (st .writer)))) (given (cleared x)) (updated b) h .1 in
       let y : _≡_ {A = ℕ} 0 1 = cc in absurd (omega arith)
   after-updated (given (updates x)) b h =
       let w = with-room (room big) (given (updated x)) (updated b) h in
@@ -80,7 +80,7 @@ module _ (st : SyncState) (m : Mem) (c : Change) where
   pub after-allocated : (a : Answer Does) (b : ℕ) → afterDoes st m c a ≡ given (allocated b) → (a ≡ given allocates) × (room big ≡ true) × (found ≡ given b)
   after-allocated (refused k) b h = absurd (given-refused (allocated b) k (sym h))
   after-allocated (given (clears x)) b h =
-      let z : given (cleared x) ≡ given (allocated b) = with-room (room clearSize) (given (cleared x)) (allocated b) h .1 in
+      let z : given (cleared x) ≡ given (allocated b) = with-room (room (clearSize (editionOf (st .writer)))) (given (cleared x)) (allocated b) h .1 in
       let y : _≡_ {A = ℕ} 0 1 = cc in absurd (omega arith)
   after-allocated (given (updates x)) b h =
       let z : given (updated x) ≡ given (allocated b) = with-room (room big) (given (updated x)) (allocated b) h .1 in

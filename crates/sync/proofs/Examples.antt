@@ -11,11 +11,13 @@ use Rattle.blocks.specs.Blocks.{block, put, flat}
 use Rattle.meta_map.specs.Tags.{countOf}
 use Rattle.page_diff.specs.Diff.{marked, slotsBelow}
 use Rattle.probe.specs.Path.{allocating, hitLimit}
-use Rattle.wal.specs.Log.{Entry, clear, update, recordOf, recordsOf}
-use Rattle.wal.specs.Reader.{startOf, next, nextAt, readBy}
+use Rattle.wal.specs.Log.{Entry, clear, update, editionOne, editionTwo, recordOf, recordsOf}
+use Rattle.wal.specs.Reader.{startIn, next, nextAt, readBy}
 use Rattle.wal.specs.Run.{logOf}
-use Rattle.wal.specs.Writer.{beginAnswer, finishAnswer}
-use Rattle.wal.specs.declared.Writer.the-variants.{Fresh, Open, Finished}
+use Rattle.wal.specs.Writer.{openAt, beginAnswer, finishAnswer}
+use Rattle.wal.specs.declared.Edition.the-variants.{One}
+use Rattle.wal.proofs.Examples.{seed}
+use Rattle.wal.specs.declared.Writer.the-variants.{Fresh, Finished}
 use Rattle.recover.specs.Places.{withHashes}
 use Rattle.recover.specs.Replay.{applied, allInside, updatesIn, checkAnswer, replayTests, replayAnswer, replayImage, stepsOf, stepImage}
 use Rattle.sync.proofs.Labels.{Labelled, elsewhere, step-labelled, replay-labelled}
@@ -63,7 +65,7 @@ abbrev stepped : SyncState → Mem → List ℕ → Change → Answer (ℕ × �
 stepped st m p c = pageNumber st (effectOf st m p c)
 
 abbrev open5 : SyncState
-open5 = stateOf 3 hitLimit (Open 5) 5
+open5 = stateOf 3 hitLimit (openAt One 5) 5
 
 abbrev asked : List ℕ → List ℕ → Change → Answer (ℕ × ℕ)
 asked ts cells c = stepped open5 (mem ts cells) page c
@@ -74,7 +76,7 @@ pub steps : (stepped (stateOf 0 hitLimit Fresh 5) (mem (tags 0 0 0) []) [] (rese
     ∷ stepped (stateOf 3 hitLimit Fresh 5) (mem (tags 0 0 0) []) page (reserved (Cell 0)) ∷ stepped (stateOf 3 hitLimit (Finished 4096) 5) (mem (tags 0 0 0) []) page (reserved (Cell 0)) ∷ [])
     ∷ (asked (tags 0 0 0) [] (reserved (Cell 0)) ∷ asked (tags 0 0 0) [] (updating (Cell 0)) ∷ asked (tags 0 0 0) (3 ∷ []) (updating (Cell 0)) ∷ asked (tags 0 0 0) [] (clearing (Known 3))
     ∷ asked (tags 0x7F 0 0) [] (clearing (Known 0)) ∷ asked (tags 0 0 0) [] (clearing FreshPage) ∷ asked (tags 0 0 0) (unset ∷ []) (clearing (Cell 0)) ∷ asked (tags 0x81 0 0) [] (updating (Known 0)) ∷ [])
-    ∷ (stepped (stateOf 3 hitLimit (Open 4087) 5) (mem (tags 0x81 0 0) []) page (clearing (Known 0)) ∷ stepped (stateOf 3 hitLimit (Open 3999) 5) (mem (tags 0x81 0x81 0) []) page (updating FreshPage)
+    ∷ (stepped (stateOf 3 hitLimit (openAt One 4087) 5) (mem (tags 0x81 0 0) []) page (clearing (Known 0)) ∷ stepped (stateOf 3 hitLimit (openAt One 3999) 5) (mem (tags 0x81 0x81 0) []) page (updating FreshPage)
     ∷ asked (tags 0x80 0x81 0) [] (updating FreshPage) ∷ asked (tags 0x81 0x81 0) [] (updating FreshPage) ∷ [])
     ∷ (asked (tags 0 0x85 0) [] (clearing (Known 1)) ∷ asked (tags 0x80 0 0) [] (updating (Known 0)) ∷ asked (tags 0x81 0x7F 0) [] (updating FreshPage)
     ∷ asked (tags 0 0 0x80) (2 ∷ []) (updating (Cell 0)) ∷ asked (tags 0 0 0) (unset ∷ []) (updating (Cell 0)) ∷ []) ∷ []
@@ -107,9 +109,9 @@ memories = refl
 abbrev far : Mem
 far = memOf (replicate 4096 0 ++ (0x85 ∷ replicate 4095 0)) (9 ∷ 9 ∷ []) [] (replicate 4096 6)
 
-pub second-page : (effectOf (stateOf 4097 hitLimit (Open 5) 5) far page (clearing (Known 4096)) ≡ given (cleared 4096))
-    × (memBy (given (cleared 4096)) (stateOf 4097 hitLimit (Open 5) 5) far page (clearing (Known 4096)) .marks ≡ 9 ∷ 1 ∷ [])
-    × (pageNumber (stateOf 4097 hitLimit (Open 5) 5) (given (cleared 4096)) ≡ given (4096, 4098))
+pub second-page : (effectOf (stateOf 4097 hitLimit (openAt One 5) 5) far page (clearing (Known 4096)) ≡ given (cleared 4096))
+    × (memBy (given (cleared 4096)) (stateOf 4097 hitLimit (openAt One 5) 5) far page (clearing (Known 4096)) .marks ≡ 9 ∷ 1 ∷ [])
+    × (pageNumber (stateOf 4097 hitLimit (openAt One 5) 5) (given (cleared 4096)) ≡ given (4096, 4098))
 unfolding effectOf allocating marked slotsBelow
 second-page = (refl, refl, refl)
 
@@ -119,9 +121,9 @@ stateLeft ts c = stateBy (effectOf open5 (mem ts []) page c) open5 c
 -- and the state: "occupied falls by one", stays, "rises by one"; a refusal leaves it; a false number stays within its
 -- type
 pub states : stateLeft (tags 0 0x85 0) (clearing (Known 1)) ∷ stateLeft (tags 0x80 0 0) (updating (Known 0)) ∷ stateLeft (tags 0x81 0x7F 0) (updating FreshPage) ∷ stateLeft (tags 0x81 0 0) (updating (Known 0))
-    ∷ stateBy (effectOf (stateOf 3 hitLimit (Open 5) 0) (mem (tags 0x85 0 0) []) page (clearing (Known 0))) (stateOf 3 hitLimit (Open 5) 0) (clearing (Known 0))
-    ∷ stateBy (effectOf (stateOf 3 hitLimit (Open 5) (2 ^ 64 - 1)) (mem (tags 0 0 0) []) page (updating FreshPage)) (stateOf 3 hitLimit (Open 5) (2 ^ 64 - 1)) (updating FreshPage) ∷ []
-    ≡ stateOf 3 hitLimit (Open 14) 4 ∷ stateOf 3 hitLimit (Open 102) 5 ∷ stateOf 3 hitLimit (Open 102) 6 ∷ stateOf 3 hitLimit (Open 5) 5 ∷ stateOf 3 hitLimit (Open 14) 0 ∷ stateOf 3 hitLimit (Open 102) (2 ^ 64 - 1) ∷ []
+    ∷ stateBy (effectOf (stateOf 3 hitLimit (openAt One 5) 0) (mem (tags 0x85 0 0) []) page (clearing (Known 0))) (stateOf 3 hitLimit (openAt One 5) 0) (clearing (Known 0))
+    ∷ stateBy (effectOf (stateOf 3 hitLimit (openAt One 5) (2 ^ 64 - 1)) (mem (tags 0 0 0) []) page (updating FreshPage)) (stateOf 3 hitLimit (openAt One 5) (2 ^ 64 - 1)) (updating FreshPage) ∷ []
+    ≡ stateOf 3 hitLimit (openAt One 14) 4 ∷ stateOf 3 hitLimit (openAt One 102) 5 ∷ stateOf 3 hitLimit (openAt One 102) 6 ∷ stateOf 3 hitLimit (openAt One 5) 5 ∷ stateOf 3 hitLimit (openAt One 14) 0 ∷ stateOf 3 hitLimit (openAt One 102) (2 ^ 64 - 1) ∷ []
 unfolding effectOf allocating marked slotsBelow
 states = refl
 
@@ -139,8 +141,8 @@ pages = page ++ page
 abbrev two : Mem
 two = mem (tags 0x85 0x81 0) []
 
-pub syncs : syncSays 3 two [] [] 7 ∷ syncSays 3 two pages both 7 ∷ syncSays 3 two pages twice 7 ∷ syncSays 0 two pages both 7 ∷ syncSays 3 two page both 7
-    ∷ syncSays 3 (memOf (tags 0x85 0x81 0) [] [] (replicate 4096 6)) pages both 7 ∷ syncSays 3 (memOf (tags 0x85 0x81 0) (9 ∷ []) [] (replicate 4095 6)) pages both 7 ∷ []
+pub syncs : syncSays 3 two [] [] (editionOne 7) ∷ syncSays 3 two pages both (editionOne 7) ∷ syncSays 3 two pages twice (editionOne 7) ∷ syncSays 0 two pages both (editionOne 7) ∷ syncSays 3 two page both (editionOne 7)
+    ∷ syncSays 3 (memOf (tags 0x85 0x81 0) [] [] (replicate 4096 6)) pages both (editionOne 7) ∷ syncSays 3 (memOf (tags 0x85 0x81 0) (9 ∷ []) [] (replicate 4095 6)) pages both (editionOne 7) ∷ []
     ≡ saidDone 2 4096 ∷ saidDone 2 4096 ∷ saidRefusedAt 1 14 ∷ saidRefused 1 ∷ saidRefused 2 ∷ saidRefused 2 ∷ saidRefused 13 ∷ []
 unfolding syncSays beforeChanges allOf memAll changeAt changeMem effectOf allocating marked slotsBelow countOf put recordOf flat block beginAnswer finishAnswer
 syncs = refl
@@ -148,15 +150,21 @@ syncs = refl
 abbrev started : List ℕ → List ℕ
 started rest = 1 ∷ 7 ∷ 0 ∷ 0 ∷ 0 ∷ rest
 
-pub sync-memories : syncMem 3 two [] [] 7 ∷ syncMem 3 two pages both 7 ∷ syncMem 3 two pages twice 7 ∷ syncMem 3 two page both 7 ∷ []
+pub sync-memories : syncMem 3 two [] [] (editionOne 7) ∷ syncMem 3 two pages both (editionOne 7) ∷ syncMem 3 two pages twice (editionOne 7) ∷ syncMem 3 two page both (editionOne 7) ∷ []
     ≡ memOf (tags 0x85 0x81 0) (0 ∷ []) [] (started (2 ∷ replicate 4090 0)) ∷ memOf (tags 0x80 0x81 0) (1 ∷ []) [] (started (clearBytes 0 ++ (updateBytes 0 ++ (2 ∷ replicate 3984 0))))
     ∷ memOf (tags 0x7F 0x81 0) (1 ∷ []) [] (started (clearBytes 0 ++ replicate 4082 6)) ∷ two ∷ []
 unfolding syncMem beforeChanges allOf memAll changeAt changeMem effectOf allocating marked slotsBelow countOf put recordOf flat block beginAnswer finishAnswer
 sync-memories = refl
 
-pub sync-writers : syncWriter 3 two pages both 7 (Open 77) ∷ syncWriter 3 two pages twice 7 (Open 77) ∷ syncWriter 3 two page both 7 (Open 77) ∷ [] ≡ Finished 4096 ∷ Fresh ∷ Open 77 ∷ []
+pub sync-writers : syncWriter 3 two pages both (editionOne 7) (openAt One 77) ∷ syncWriter 3 two pages twice (editionOne 7) (openAt One 77) ∷ syncWriter 3 two page both (editionOne 7) (openAt One 77) ∷ [] ≡ Finished 4096 ∷ Fresh ∷ openAt One 77 ∷ []
 unfolding syncWriter beforeChanges allOf memAll changeAt changeMem effectOf allocating marked slotsBelow countOf put recordOf flat block beginAnswer finishAnswer
 sync-writers = refl
+
+-- the same sync with a log of edition two: the store is named in the start, and 0xB2 stands before each tag
+pub sync-two : (syncSays 3 two pages both (editionTwo 7 seed) ∷ syncSays 3 two pages twice (editionTwo 7 seed) ∷ [] ≡ saidDone 2 4096 ∷ saidRefusedAt 1 14 ∷ [])
+    × (syncMem 3 two pages both (editionTwo 7 seed) .log ≡ 0xB2 ∷ 1 ∷ 7 ∷ 0 ∷ 0 ∷ 0 ∷ (seed ++ ((0xB2 ∷ clearBytes 0) ++ ((0xB2 ∷ updateBytes 0) ++ (0xB2 ∷ 2 ∷ replicate 3964 0)))))
+unfolding syncSays syncMem beforeChanges allOf memAll changeAt changeMem effectOf allocating marked slotsBelow countOf put recordOf flat block beginAnswer finishAnswer
+sync-two = (refl, refl)
 
 -- "where (known b, fresh, or cell i)" as two numbers, and back
 pub wheres : map whereOf (record { kind = 0; at = 7 } ∷ record { kind = 1; at = 7 } ∷ record { kind = 2; at = 7 } ∷ record { kind = 3; at = 7 } ∷ []) ≡ Known 7 ∷ FreshPage ∷ Cell 7 ∷ Cell 7 ∷ []
@@ -166,7 +174,7 @@ pub placed : map placeOf (Known 7 ∷ FreshPage ∷ Cell 7 ∷ []) ≡ record { 
 placed = refl
 
 -- each case of the code's answers
-pub said : (map takenSaid (taken.At 1 2 ∷ taken.Refused BucketUnfit ∷ []) ≡ given (1, 2) ∷ refused 14 ∷ []) × (map runSaid (run.On (stateOf 3 hitLimit (Open 5) 2) ∷ run.Refused NoRoom (Open 77) ∷ run.RefusedAt 1 BucketOutside ∷ []) ≡ on (stateOf 3 hitLimit (Open 5) 2) ∷ unbegun 13 (Open 77) ∷ stopped 1 9 ∷ [])
+pub said : (map takenSaid (taken.At 1 2 ∷ taken.Refused BucketUnfit ∷ []) ≡ given (1, 2) ∷ refused 14 ∷ []) × (map runSaid (run.On (stateOf 3 hitLimit (openAt One 5) 2) ∷ run.Refused NoRoom (openAt One 77) ∷ run.RefusedAt 1 BucketOutside ∷ []) ≡ on (stateOf 3 hitLimit (openAt One 5) 2) ∷ unbegun 13 (openAt One 77) ∷ stopped 1 9 ∷ [])
     × (map syncedSaid (synced.Done 2 4096 ∷ synced.Refused LengthUnfit ∷ synced.RefusedAt 1 NoRoom ∷ []) ≡ saidDone 2 4096 ∷ saidRefused 2 ∷ saidRefusedAt 1 13 ∷ [])
 said = (refl, refl, refl)
 
@@ -175,24 +183,24 @@ abbrev update0 : Entry
 update0 = update (replicate 32 1) (1 ∷ 0 ∷ []) (replicate 32 5 ∷ []) (replicate 8 2) 0
 
 abbrev labelLog : List ℕ
-labelLog = logOf 7 (clear 0 ∷ update0 ∷ [])
+labelLog = logOf (editionOne 7) (clear 0 ∷ update0 ∷ [])
 
-accepted : replayAnswer 1 (replicate 8192 0) labelLog 7 (0 ∷ []) ≡ given applied
-unfolding replayTests startOf checkAnswer allInside updatesIn readBy nextAt block marked slotsBelow recordsOf recordOf flat
+accepted : replayAnswer 1 (replicate 8192 0) labelLog (record { sync = 7; seed = replicate 16 0 }) (0 ∷ []) ≡ given applied
+unfolding replayTests startIn checkAnswer allInside updatesIn readBy nextAt block marked slotsBelow recordsOf recordOf flat
 accepted = refl
 
 its-steps : stepsOf labelLog (0 ∷ []) ≡ record { entry = clear 0; hash = 0 } ∷ record { entry = update0; hash = 0 } ∷ []
 unfolding withHashes readBy nextAt block marked slotsBelow recordsOf recordOf flat
 its-steps = refl
 
-its-second : nextAt labelLog 14 ≡ next update0 111
+its-second : nextAt One labelLog 14 ≡ next update0 111
 unfolding nextAt block marked slotsBelow recordsOf recordOf flat
 its-second = refl
 
-pub labels : Labelled 1 (replayImage 1 (replicate 8192 0) labelLog 7 (0 ∷ [])) 0 0 (replicate 32 1) (replicate 8 2)
-    × Labelled 1 (stepImage 1 (replicate 8192 0) labelLog 14 0) 0 0 (replicate 32 1) (replicate 8 2)
+pub labels : Labelled 1 (replayImage 1 (replicate 8192 0) labelLog (record { sync = 7; seed = replicate 16 0 }) (0 ∷ [])) 0 0 (replicate 32 1) (replicate 8 2)
+    × Labelled 1 (stepImage 1 (replicate 8192 0) One labelLog 14 0) 0 0 (replicate 32 1) (replicate 8 2)
 unfolding elsewhere
 labels = (
-  replay-labelled 1 (replicate 8192 0) labelLog 7 (0 ∷ []) accepted (record { entry = clear 0; hash = 0 } ∷ []) [] (replicate 32 1) (1 ∷ 0 ∷ []) (replicate 32 5 ∷ []) (replicate 8 2) 0 0 its-steps refl refl refl,
-  step-labelled 1 (replicate 8192 0) labelLog 14 0 (replicate 32 1) (1 ∷ 0 ∷ []) (replicate 32 5 ∷ []) (replicate 8 2) 0 111 refl its-second (omega arith) refl refl,
+  replay-labelled 1 (replicate 8192 0) labelLog (record { sync = 7; seed = replicate 16 0 }) (0 ∷ []) accepted (record { entry = clear 0; hash = 0 } ∷ []) [] (replicate 32 1) (1 ∷ 0 ∷ []) (replicate 32 5 ∷ []) (replicate 8 2) 0 0 its-steps refl refl refl,
+  step-labelled 1 (replicate 8192 0) One labelLog 14 0 (replicate 32 1) (1 ∷ 0 ∷ []) (replicate 32 5 ∷ []) (replicate 8 2) 0 111 refl its-second (omega arith) refl refl,
 )

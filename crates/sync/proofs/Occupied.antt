@@ -12,6 +12,7 @@ use Rattle.meta_map.proofs.Laws.{full-tag-kind, count-set, count-le}
 use Rattle.probe.specs.Path.{allocating}
 use Rattle.probe.proofs.Promises.{allocated-bucket}
 use Rattle.wal.specs.Writer.{finishAnswer}
+use Rattle.wal.specs.declared.Start.{Start}
 use Rattle.sync.specs.Change.{Mem, memOf, doesOf, Effect, cleared, updated, allocated, effectOf, tagsIf, memBy, stateBy}
 use Rattle.sync.specs.Sync.{pageOf, Came, through, refusedAt, orRest, orMem, changeAt, changeMem, allOf, memAll, beforeChanges, startMem, startState, saidDone, saidFinish, saidBy, saidIf, keptIf, logAfter, came, left, syncSays, syncMem}
 use Rattle.sync.specs.declared.Change.{Change}
@@ -75,11 +76,11 @@ said-done (given u) (refusedAt j k) st l o len h = let z : _≡_ {A = ℕ} 0 1 =
 said-done (given u) (through j) st l o len h = (refl, finish-done (finishAnswer (l .log) (st .writer)) (st .occupied) o len h)
 
 -- the whole: "answers occupied", the number of full tags that it leaves
-pub done-occupied : (n : ℕ) (m : Mem) (pages : List ℕ) (cs : List Change) (sync o len : ℕ) → syncSays n m pages cs sync ≡ saidDone o len → o ≡ countOf full (syncMem n m pages cs sync .tags) n
+pub done-occupied : (n : ℕ) (m : Mem) (pages : List ℕ) (cs : List Change) (start : Start) (o len : ℕ) → syncSays n m pages cs start ≡ saidDone o len → o ≡ countOf full (syncMem n m pages cs start .tags) n
 unfolding syncSays syncMem
-done-occupied n m pages cs sync o len h =
-    let a = came n m pages cs sync in
-    let l = left n m pages cs sync in
+done-occupied n m pages cs start o len h =
+    let a = came n m pages cs start in
+    let l = left n m pages cs start in
     let d = said-done (beforeChanges n m pages (length cs)) (a .came) (a .state) l o len h in
-    sym (d .1) ∙ all-occupied pages cs (startMem m sync) 0 (startState n m) refl
+    sym (d .1) ∙ all-occupied pages cs (startMem m start) 0 (startState n m start) refl
     ∙ sym (ap (λ (b : Answer (Unit {0})). countOf full (keptIf b m (memOf (l .tags) (l .marks) (l .cells) (logAfter (a .came) (a .state) l)) .tags) n) (d .0))

@@ -3,7 +3,7 @@
 use mathlib.Core.Path.{_≡_, refl, sym, ap, ap₂, _∙_, subst}
 use mathlib.Core.Bool.{Bool, true, false, cond}
 use mathlib.Core.List.{List, [], _∷_}
-use Prim.Native.Nat.{ℕ, _+_, _<_, _^_}
+use Prim.Native.Nat.{ℕ, _+_, _<_}
 use native.Mathlib.Omega.{arith}
 use lib.ListN.{length, getD, take, length-replicate, getD-replicate}
 use Rattle.answers.specs.Answers.{Answer, given, refused}
@@ -12,10 +12,13 @@ use Rattle.answers.specs.declared.Refusal.{Refusal}
 use Rattle.ht_file.specs.Places.{imageFits}
 use Rattle.meta_map.specs.Tags.{full, countOf}
 use Rattle.page_diff.specs.Diff.{marked}
-use Rattle.wal.specs.Log.{Entry, startSize, recordsOf}
+use Rattle.wal.specs.declared.Start.{Start}
+use Rattle.wal.specs.Log.{Entry}
 use Rattle.wal.specs.Reader.{startOf, readLog}
 use Rattle.wal.specs.declared.Writer.the-variants.{Fresh}
-use Rattle.recover.specs.Replay.{applied, oneUpdate, updatesIn, replayAnswer}
+use Rattle.recover.specs.Replay.{applied, oneUpdate, updatesIn, replayAnswer, Own}
+use Rattle.recover.specs.declared.Expected.{Expected}
+use Rattle.wal.specs.Run.{WideStart, endOf}
 use Rattle.sync.specs.Change.{AllWide, Mem, clears, updates, allocates, doesOf, Effect, cleared, updated, allocated, effectOf, entryBy, memBy, stateBy}
 use Rattle.sync.specs.Sync.{pageOf, Came, through, refusedAt, orRest, changeAt, changeMem, allOf, entriesBy, entriesOf, hashesOf, beforeChanges, startMem, startState, SyncSaid, saidDone, saidBy, saidIf, syncedSaid, came, left, syncSays, syncMem, widthsBy, SyncPromise}
 use Rattle.sync.specs.declared.Change.{Change}
@@ -79,83 +82,84 @@ module _ (s : SyncStart) (m : Mem) (pages : List ℕ) (cs : List Change) (r : Sy
   abbrev n : ℕ
   n = s .n
 
-  abbrev sync : ℕ
-  sync = s .«sync_seqn»
+  abbrev start : Start
+  start = s .«log_start»
 
   -- what it said, where the answer is known
-  said : (x : Synced) → r .synced ≡ x → syncSays n m pages cs sync ≡ syncedSaid x
+  said : (x : Synced) → r .synced ≡ x → syncSays n m pages cs start ≡ syncedSaid x
   said x e = sym (p .says) ∙ ap syncedSaid e
 
   -- "A refusal answers its number and leaves all lent memory": 1, 2 or begin's 13, with the writer as it was
   pub sync-refused-leaves : (why : Refusal) → r .synced ≡ synced.Refused why → OfStart (numberOf why) × (after ≡ m) × (r .writer ≡ s .writer)
   sync-refused-leaves why e =
-      let b = refused-before n m pages cs sync (numberOf why) (said (synced.Refused why) e) in
+      let b = refused-before n m pages cs start (numberOf why) (said (synced.Refused why) e) in
       (start-number n m pages (length cs) (numberOf why) (b .0), p .memory ∙ b .1, p .writer ∙ b .2 (s .writer))
 
   -- "a sync refused at change j keeps the effects of changes before j and its marks, answers j, and its writer becomes fresh": its number is one
   -- of a change's, and the memory is that of the first j changes
   pub sync-refused-at : (j : ℕ) (why : Refusal) → r .synced ≡ synced.RefusedAt j why
-      → (j < length cs) × OfChange (numberOf why) × (came n m pages (take j cs) sync .came ≡ through j) × (after ≡ left n m pages (take j cs) sync) × (r .writer ≡ Fresh)
+      → (j < length cs) × OfChange (numberOf why) × (came n m pages (take j cs) start .came ≡ through j) × (after ≡ left n m pages (take j cs) start) × (r .writer ≡ Fresh)
   sync-refused-at j why e =
-      let q = refused-at n m pages cs sync j (numberOf why) (said (synced.RefusedAt j why) e) in
+      let q = refused-at n m pages cs start j (numberOf why) (said (synced.RefusedAt j why) e) in
       (q .within, q .number, q .came-to, p .memory ∙ q .memory, p .writer ∙ q .fresh (s .writer))
 
   -- ---- by its answer: done
   module _ (o len : ℕ) (done : r .synced ≡ synced.Done o len) where
-    says : syncSays n m pages cs sync ≡ saidDone o len
+    says : syncSays n m pages cs start ≡ saidDone o len
     says = said (synced.Done o len) done
 
-    widths : AllWide cs × (sync < 2 ^ 32)
-    widths = subst (λ (x : SyncSaid). widthsBy x cs sync) (ap syncedSaid done) (p .widths)
+    widths : AllWide cs × (WideStart start)
+    widths = subst (λ (x : SyncSaid). widthsBy x cs start) (ap syncedSaid done) (p .widths)
 
-    same-log : take len (syncMem n m pages cs sync .log) ≡ take len (after .log)
+    same-log : take len (syncMem n m pages cs start .log) ≡ take len (after .log)
     same-log = ap (λ (x : Mem). take len (x .log)) (sym (p .memory))
 
     -- the entries that the changes give, in order
     abbrev pub logged : List Entry
-    logged = entriesOf (startMem m sync) pages cs 0 (startState n m)
+    logged = entriesOf (startMem m start) pages cs 0 (startState n m start)
 
     -- "answers occupied": the number of full tags that it leaves
     pub sync-occupied : o ≡ countOf full (after .tags) n
-    sync-occupied = done-occupied n m pages cs sync o len says ∙ ap (λ (x : Mem). countOf full (x .tags) n) (sym (p .memory))
+    sync-occupied = done-occupied n m pages cs start o len says ∙ ap (λ (x : Mem). countOf full (x .tags) n) (sym (p .memory))
 
     -- "A finished log reads back as exactly the entries written"
-    pub sync-reads-start : startOf (take len (after .log)) ≡ given sync
-    sync-reads-start = ap startOf (sym same-log) ∙ done-start n m pages cs sync o len (widths .0) (widths .1) says
+    pub sync-reads-start : startOf (take len (after .log)) ≡ given (start .sync)
+    sync-reads-start = ap startOf (sym same-log) ∙ done-start n m pages cs start o len (widths .0) (widths .1) says
 
-    pub sync-reads-back : readLog (take len (after .log)) ≡ record { entries = logged; at = startSize + length (recordsOf logged); stop = given tt }
-    sync-reads-back = ap readLog (sym same-log) ∙ done-back n m pages cs sync o len (widths .0) (widths .1) says
+    pub sync-reads-back : readLog (take len (after .log)) ≡ record { entries = logged; at = endOf start logged; stop = given tt }
+    sync-reads-back = ap readLog (sym same-log) ∙ done-back n m pages cs start o len (widths .0) (widths .1) says
 
     -- each tag outside the buckets of the logged entries is as before; each mark is 1 where a tag of its page was written, else 0
     pub sync-other-tags : (i : ℕ) → Misses i logged → getD (after .tags) i 0 ≡ getD (m .tags) i 0
     sync-other-tags i misses =
         ap (λ (x : Mem). getD (x .tags) i 0) (p .memory)
-        ∙ ap (λ (x : List ℕ). getD x i 0) (done-left n m pages cs sync o len (widths .0) (widths .1) says .0)
-        ∙ all-tags i pages cs (startMem m sync) 0 (startState n m) misses
+        ∙ ap (λ (x : List ℕ). getD x i 0) (done-left n m pages cs start o len (widths .0) (widths .1) says .0)
+        ∙ all-tags i pages cs (startMem m start) 0 (startState n m start) misses
 
-    pub sync-marks : (q : ℕ) → q < length (m .marks) → getD (after .marks) q 0 ≡ cond (wrote (startMem m sync) pages cs 0 (startState n m) q) 1 0
+    pub sync-marks : (q : ℕ) → q < length (m .marks) → getD (after .marks) q 0 ≡ cond (wrote (startMem m start) pages cs 0 (startState n m start) q) 1 0
     sync-marks q l =
-        let long : length (startMem m sync .marks) ≡ length (m .marks) = length-replicate (length (m .marks)) 0 in
+        let long : length (startMem m start .marks) ≡ length (m .marks) = length-replicate (length (m .marks)) 0 in
         ap (λ (x : Mem). getD (x .marks) q 0) (p .memory)
-        ∙ ap (λ (x : List ℕ). getD x q 0) (done-left n m pages cs sync o len (widths .0) (widths .1) says .1)
-        ∙ all-marks q pages cs (startMem m sync) 0 (startState n m) (omega (arith, long))
-        ∙ ap (cond (wrote (startMem m sync) pages cs 0 (startState n m) q) 1) (getD-replicate (length (m .marks)) q 0 0 l)
+        ∙ ap (λ (x : List ℕ). getD x q 0) (done-left n m pages cs start o len (widths .0) (widths .1) says .1)
+        ∙ all-marks q pages cs (startMem m start) 0 (startState n m start) (omega (arith, long))
+        ∙ ap (cond (wrote (startMem m start) pages cs 0 (startState n m start) q) 1) (getD-replicate (length (m .marks)) q 0 0 l)
 
-    came-through : (i : ℕ) × (came n m pages cs sync .came ≡ through i)
+    came-through : (i : ℕ) × (came n m pages cs start .came ≡ through i)
     unfolding syncSays
-    came-through = go (beforeChanges n m pages (length cs)) (came n m pages cs sync .came) refl says
+    came-through = go (beforeChanges n m pages (length cs)) (came n m pages cs start .came) refl says
       where
-        go : (b : Answer (Unit {0})) (c : Came) → came n m pages cs sync .came ≡ c → saidIf b (saidBy c (came n m pages cs sync .state) (left n m pages cs sync)) ≡ saidDone o len → (i : ℕ) × (came n m pages cs sync .came ≡ through i)
+        go : (b : Answer (Unit {0})) (c : Came) → came n m pages cs start .came ≡ c → saidIf b (saidBy c (came n m pages cs start .state) (left n m pages cs start)) ≡ saidDone o len → (i : ℕ) × (came n m pages cs start .came ≡ through i)
         go (refused k) c q e = let z : _≡_ {A = ℕ} 0 1 = cc in absurd (omega arith)
         go (given u) (refusedAt j k) q e = let z : _≡_ {A = ℕ} 0 1 = cc in absurd (omega arith)
         go (given u) (through i) q e = (i, q)
 
     -- "with the sync's own number .. and hashes for its updates": there are as many as replay wants
     pub sync-hashes : length (hashesOf cs) ≡ updatesIn logged
-    sync-hashes = all-hashed pages cs (startMem m sync) 0 (startState n m) (came-through .0) (came-through .1)
+    sync-hashes = all-hashed pages cs (startMem m start) 0 (startState n m start) (came-through .0) (came-through .1)
 
-    -- replay accepts the log on every image of the table's size, under the sync's own number and with the hashes of its updates
-    pub sync-replays : (table : List ℕ) → imageFits n (length table) ≡ true → replayAnswer n table (take len (after .log)) sync (hashesOf cs) ≡ given applied
-    sync-replays table fits =
-        ap (λ (l : List ℕ). replayAnswer n table l sync (hashesOf cs)) (sym same-log)
-        ∙ done-replays n m pages cs sync o len (widths .0) says (widths .1) table (hashesOf cs) fits sync-hashes
+    -- replay accepts the log on every image of the table's size, under the sync's own number (and, in edition two, seed) and with the hashes of its
+    -- updates
+    pub sync-replays : (want : Expected) → Own start want → (table : List ℕ) → imageFits n (length table) ≡ true → replayAnswer n table (take len (after .log)) want (hashesOf cs) ≡ given applied
+    sync-replays want own table fits =
+        ap (λ (l : List ℕ). replayAnswer n table l want (hashesOf cs)) (sym same-log)
+        ∙ done-replays n m pages cs start o len (widths .0) says (widths .1) want own table (hashesOf cs) fits sync-hashes

@@ -19,11 +19,12 @@ use Rattle.page_diff.specs.Diff.{marked, countOf}
 use Rattle.probe.specs.declared.Limit.{Limit}
 use Rattle.probe.specs.Path.{allocating}
 use Rattle.probe.proofs.Allocating.{refused-numbers}
-use Rattle.wal.specs.Log.{recordOf, startRecord, finishedLength, clearSize, updateSize}
-use Rattle.wal.specs.Writer.{openAt, position, capacity, ifOpen, ifRoom, beginAnswer, beginLog, logBy, finishAnswer}
+use Rattle.wal.specs.declared.Start.{Start}
+use Rattle.wal.specs.Log.{recordOf, startRecord, finishedLength, clearSize, updateSize, markSize}
+use Rattle.wal.specs.Writer.{openAt, position, editionOf, capacity, ifOpen, ifRoom, beginAnswer, beginLog, logBy, finishAnswer}
 use Rattle.wal.specs.declared.Writer.{Writer}
 use Rattle.wal.specs.declared.Writer.the-variants.{Fresh}
-use Rattle.wal.proofs.RoundTrip.{same-capacity}
+use Rattle.wal.proofs.RoundTrip.{same-capacity, start-small}
 use Rattle.sync.specs.Change.{Mem, memOf, Named, bucket, none, cellNames, whereOf, namedBy, tagFits, Does, clears, updates, allocates, doesWith, byNamed, doesOf, Effect, cleared, updated, allocated, byBucket, afterDoes, effectOf, entryBy, sizeBy, tagsBy, marksBy, memBy, stateBy}
 use Rattle.sync.specs.Sync.{pageOf, Came, through, refusedAt, orRest, orMem, changeAt, changeMem, allOf, memAll, beforeChanges, startMem, startState, saidDone, saidRefused, saidRefusedAt, saidFinish, saidBy, saidIf, keptIf, logAfter, writerAfter, came, left, syncSays, syncMem, syncWriter}
 use Rattle.sync.specs.declared.Change.{Change}
@@ -36,24 +37,24 @@ use Rattle.sync.proofs.StartLaws.{page-there}
 
 -- the writer is open, with room for the end
 pub record Ready (w : Writer) (log : List ℕ) : Type 0 where
-  pub is-open : w ≡ openAt (position w)
-  pub room : position w + 1 ≤ capacity log
+  pub is-open : w ≡ openAt (editionOf w) (position w)
+  pub room : position w + markSize (editionOf w) ≤ capacity log
 
 module _ (st : SyncState) (m : Mem) (page : List ℕ) (c : Change) where
-  sized : (e : Effect) → effectOf st m page c ≡ given e → position (st .writer) + sizeBy c e + 1 ≤ capacity (m .log)
+  sized : (e : Effect) → effectOf st m page c ≡ given e → position (st .writer) + sizeBy (editionOf (st .writer)) c e + markSize (editionOf (st .writer)) ≤ capacity (m .log)
   sized (cleared b) h =
-      leb-true (position (st .writer) + clearSize + 1) (capacity (m .log)) (after-cleared st m c (doesOf (st .n) (m .tags) (m .cells) c) b (accepted-change st m page c (cleared b) h .2) .1)
+      leb-true (position (st .writer) + clearSize (editionOf (st .writer)) + markSize (editionOf (st .writer))) (capacity (m .log)) (after-cleared st m c (doesOf (st .n) (m .tags) (m .cells) c) b (accepted-change st m page c (cleared b) h .2) .1)
   sized (updated b) h =
-      leb-true (position (st .writer) + updateSize (countOf (c .diff .words)) + 1) (capacity (m .log)) (after-updated st m c (doesOf (st .n) (m .tags) (m .cells) c) b (accepted-change st m page c (updated b) h .2) .1)
+      leb-true (position (st .writer) + updateSize (editionOf (st .writer)) (countOf (c .diff .words)) + markSize (editionOf (st .writer))) (capacity (m .log)) (after-updated st m c (doesOf (st .n) (m .tags) (m .cells) c) b (accepted-change st m page c (updated b) h .2) .1)
   sized (allocated b) h =
-      leb-true (position (st .writer) + updateSize (countOf (c .diff .words)) + 1) (capacity (m .log)) (after-allocated st m c (doesOf (st .n) (m .tags) (m .cells) c) b (accepted-change st m page c (allocated b) h .2) .1)
+      leb-true (position (st .writer) + updateSize (editionOf (st .writer)) (countOf (c .diff .words)) + markSize (editionOf (st .writer))) (capacity (m .log)) (after-allocated st m c (doesOf (st .n) (m .tags) (m .cells) c) b (accepted-change st m page c (allocated b) h .2) .1)
 
   -- an accepted change leaves it so
   change-ready : (e : Effect) → effectOf st m page c ≡ given e → Ready (stateBy (given e) st c .writer) (memBy (given e) st m page c .log)
   change-ready e h =
       record {
         is-open = refl;
-        room = omega (arith, sized e h, same-capacity (put (m .log) (position (st .writer)) (recordOf (entryBy c page e))) (m .log) (put-length (m .log) (position (st .writer)) (recordOf (entryBy c page e))));
+        room = omega (arith, sized e h, same-capacity (put (m .log) (position (st .writer)) (recordOf (editionOf (st .writer)) (entryBy c page e))) (m .log) (put-length (m .log) (position (st .writer)) (recordOf (editionOf (st .writer)) (entryBy c page e))));
       }
 
 -- and so do all of them, where they come through
@@ -78,19 +79,19 @@ all-ready pages (c ∷ cs) m j st i r e = go (effectOf st m (pageOf pages j) c) 
     go (refused k) h rest = rw (h) (λ q. absurd (no-through j k i q))
 
 -- then finish is accepted
-finishes : (w : Writer) (log : List ℕ) → Ready w log → finishAnswer log w ≡ given (finishedLength (position w))
+finishes : (w : Writer) (log : List ℕ) → Ready w log → finishAnswer log w ≡ given (finishedLength (editionOf w) (position w))
 unfolding finishAnswer
 finishes w log r =
-    ap (λ (v : Writer). ifOpen v (ifRoom log w 0 (given (finishedLength (position w))))) (r .is-open)
-    ∙ ap (λ (t : Bool). cond t (given (finishedLength (position w))) (refused 13)) (le-leb (position w + 0 + 1) (capacity log) (omega (arith, r .room)))
+    ap (λ (v : Writer). ifOpen v (ifRoom log w 0 (given (finishedLength (editionOf w) (position w))))) (r .is-open)
+    ∙ ap (λ (t : Bool). cond t (given (finishedLength (editionOf w) (position w))) (refused 13)) (le-leb (position w + 0 + markSize (editionOf w)) (capacity log) (omega (arith, r .room)))
 
 -- the start
-begin-ready : (m : Mem) (n sync : ℕ) → beginAnswer (m .log) ≡ given tt → Ready (startState n m .writer) (startMem m sync .log)
+begin-ready : (m : Mem) (n : ℕ) (start : Start) → beginAnswer (m .log) ≡ given tt → Ready (startState n m start .writer) (startMem m start .log)
 unfolding beginAnswer
-begin-ready m n sync h =
+begin-ready m n start h =
     record {
       is-open = refl;
-      room = omega (arith, begin-room (leb 4096 (capacity (m .log))) refl h, same-capacity (beginLog (m .log) sync) (m .log) (begun-length (beginAnswer (m .log))));
+      room = omega (arith, start-small (start .edition), begin-room (leb 4096 (capacity (m .log))) refl h, same-capacity (beginLog (m .log) start) (m .log) (begun-length (beginAnswer (m .log))));
     }
   where
     begin-room : (t : Bool) → leb 4096 (capacity (m .log)) ≡ t → cond (leb 4096 (capacity (m .log))) (given (tt {0})) (refused 13) ≡ given tt → 4096 ≤ capacity (m .log)
@@ -99,30 +100,30 @@ begin-ready m n sync h =
         let z : refused 13 ≡ given (tt {0}) = sym (ap (λ (t : Bool). cond t (given (tt {0})) (refused 13)) e) ∙ q in
         let y : _≡_ {A = ℕ} 0 1 = cc in absurd (omega arith)
 
-    begun-length : (a : Answer (Unit {0})) → length (logBy a (m .log) 0 (startRecord sync)) ≡ length (m .log)
-    begun-length (given u) = put-length (m .log) 0 (startRecord sync)
+    begun-length : (a : Answer (Unit {0})) → length (logBy a (m .log) 0 (startRecord start)) ≡ length (m .log)
+    begun-length (given u) = put-length (m .log) 0 (startRecord start)
     begun-length (refused k) = refl
 
 -- "A refusal answers its number and leaves all lent memory": a sync that is refused, and not at a change, has begun nothing
-module _ (n : ℕ) (m : Mem) (pages : List ℕ) (cs : List Change) (sync k : ℕ) where
-  no-refusal : (b : Answer (Unit {0})) → beforeChanges n m pages (length cs) ≡ b → (c : Came) → came n m pages cs sync .came ≡ c
-      → saidIf b (saidBy c (came n m pages cs sync .state) (left n m pages cs sync)) ≡ saidRefused k → b ≡ refused k
+module _ (n : ℕ) (m : Mem) (pages : List ℕ) (cs : List Change) (start : Start) (k : ℕ) where
+  no-refusal : (b : Answer (Unit {0})) → beforeChanges n m pages (length cs) ≡ b → (c : Came) → came n m pages cs start .came ≡ c
+      → saidIf b (saidBy c (came n m pages cs start .state) (left n m pages cs start)) ≡ saidRefused k → b ≡ refused k
   no-refusal (refused j) p c q e = let z : j ≡ k = cc in ap refused z
   no-refusal (given u) p (refusedAt j i) q e = let y : _≡_ {A = ℕ} 0 1 = cc in absurd (omega arith)
   no-refusal (given u) p (through i) q e =
       let ok = start-passed n m pages (length cs) p .3 in
-      let r = all-ready pages cs (startMem m sync) 0 (startState n m) i (begin-ready m n sync ok) q in
-      let f = finishes (came n m pages cs sync .state .writer) (left n m pages cs sync .log) r in
-      let z : saidDone (came n m pages cs sync .state .occupied) (finishedLength (position (came n m pages cs sync .state .writer))) ≡ saidRefused k = sym (ap (λ (a : Answer ℕ). saidFinish a (came n m pages cs sync .state .occupied)) f) ∙ e in
+      let r = all-ready pages cs (startMem m start) 0 (startState n m start) i (begin-ready m n start ok) q in
+      let f = finishes (came n m pages cs start .state .writer) (left n m pages cs start .log) r in
+      let z : saidDone (came n m pages cs start .state .occupied) (finishedLength (editionOf (came n m pages cs start .state .writer)) (position (came n m pages cs start .state .writer))) ≡ saidRefused k = sym (ap (λ (a : Answer ℕ). saidFinish a (came n m pages cs start .state .occupied)) f) ∙ e in
       let y : _≡_ {A = ℕ} 0 1 = cc in absurd (omega arith)
 
-  pub refused-before : syncSays n m pages cs sync ≡ saidRefused k → (beforeChanges n m pages (length cs) ≡ refused k) × (syncMem n m pages cs sync ≡ m) × ((w : Writer) → syncWriter n m pages cs sync w ≡ w)
+  pub refused-before : syncSays n m pages cs start ≡ saidRefused k → (beforeChanges n m pages (length cs) ≡ refused k) × (syncMem n m pages cs start ≡ m) × ((w : Writer) → syncWriter n m pages cs start w ≡ w)
   unfolding syncSays syncMem syncWriter
   refused-before e =
-      let b = no-refusal (beforeChanges n m pages (length cs)) refl (came n m pages cs sync .came) refl e in (
+      let b = no-refusal (beforeChanges n m pages (length cs)) refl (came n m pages cs start .came) refl e in (
         b,
-        ap (λ (a : Answer (Unit {0})). keptIf a m (memOf (left n m pages cs sync .tags) (left n m pages cs sync .marks) (left n m pages cs sync .cells) (logAfter (came n m pages cs sync .came) (came n m pages cs sync .state) (left n m pages cs sync)))) b,
-        λ w. ap (λ (a : Answer (Unit {0})). keptIf a w (writerAfter (came n m pages cs sync .came) (came n m pages cs sync .state) (left n m pages cs sync))) b,
+        ap (λ (a : Answer (Unit {0})). keptIf a m (memOf (left n m pages cs start .tags) (left n m pages cs start .marks) (left n m pages cs start .cells) (logAfter (came n m pages cs start .came) (came n m pages cs start .state) (left n m pages cs start)))) b,
+        λ w. ap (λ (a : Answer (Unit {0})). keptIf a w (writerAfter (came n m pages cs start .came) (came n m pages cs start .state) (left n m pages cs start))) b,
       )
 
 -- ---- a refusal before the first change: "1, 2 .., 13 for begin"
@@ -194,16 +195,16 @@ module _ (st : SyncState) (m : Mem) (c : Change) (k : ℕ) where
 
   ahead-number : (a : Answer Does) → (a ≡ refused k → OfChange k) → afterDoes st m c a ≡ refused k → OfChange k
   ahead-number (refused i) f q = f (ap refused (refused-one i k q))
-  ahead-number (given (clears b)) f q = with-room (room st m c clearSize) (given (cleared b)) (λ z. absurd (given-refused (cleared b) k z)) q
-  ahead-number (given (updates b)) f q = with-room (room st m c (updateSize (countOf (c .diff .words)))) (given (updated b)) (λ z. absurd (given-refused (updated b) k z)) q
+  ahead-number (given (clears b)) f q = with-room (room st m c (clearSize (editionOf (st .writer)))) (given (cleared b)) (λ z. absurd (given-refused (cleared b) k z)) q
+  ahead-number (given (updates b)) f q = with-room (room st m c (updateSize (editionOf (st .writer)) (countOf (c .diff .words)))) (given (updated b)) (λ z. absurd (given-refused (updated b) k z)) q
   ahead-number (given allocates) f q =
-      with-room (room st m c (updateSize (countOf (c .diff .words)))) (byBucket (allocating (st .limit) (m .tags) (st .n) (c .hash))) (by-bucket (allocating (st .limit) (m .tags) (st .n) (c .hash)) (allocation-number (st .limit) (m .tags) (st .n) (c .hash) k)) q
+      with-room (room st m c (updateSize (editionOf (st .writer)) (countOf (c .diff .words)))) (byBucket (allocating (st .limit) (m .tags) (st .n) (c .hash))) (by-bucket (allocating (st .limit) (m .tags) (st .n) (c .hash)) (allocation-number (st .limit) (m .tags) (st .n) (c .hash) k)) q
 
 -- within a sync what a step tests of its own holds: the lengths fit, and the writer is open
 record Fit (st : SyncState) (m : Mem) : Type 0 where
   pub tags-fit : tagsFit (st .n) (length (m .tags)) ≡ true
   pub marks-fit : length (m .marks) ≡ tagPages (st .n)
-  pub is-open : st .writer ≡ openAt (position (st .writer))
+  pub is-open : st .writer ≡ openAt (editionOf (st .writer)) (position (st .writer))
 
 module _ (st : SyncState) (m : Mem) (page : List ℕ) (c : Change) where
   tags-long : (e : Effect) → length (tagsBy e (c .hash) (m .tags)) ≡ length (m .tags)
@@ -287,12 +288,12 @@ stops-at pages (c ∷ cs) m j st i k f long e = go (effectOf st m (pageOf pages 
         }
 
 -- the whole: refused at change j, with its number, on the memory of the first j changes, the writer fresh
-pub record RefusedAt (n : ℕ) (m : Mem) (pages : List ℕ) (cs : List Change) (sync j k : ℕ) : Type 0 where
+pub record RefusedAt (n : ℕ) (m : Mem) (pages : List ℕ) (cs : List Change) (start : Start) (j k : ℕ) : Type 0 where
   pub within : j < length cs
   pub number : OfChange k
-  pub came-to : came n m pages (take j cs) sync .came ≡ through j
-  pub memory : syncMem n m pages cs sync ≡ left n m pages (take j cs) sync
-  pub fresh : (w : Writer) → syncWriter n m pages cs sync w ≡ Fresh
+  pub came-to : came n m pages (take j cs) start .came ≡ through j
+  pub memory : syncMem n m pages cs start ≡ left n m pages (take j cs) start
+  pub fresh : (w : Writer) → syncWriter n m pages cs start w ≡ Fresh
 
 finish-at : (a : Answer ℕ) (o j k : ℕ) → saidFinish a o ≡ saidRefusedAt j k → ⊥
 finish-at (given len) o j k e = let z : _≡_ {A = ℕ} 0 1 = cc in omega arith
@@ -309,22 +310,22 @@ page-long pages count e t l =
     let z : 0 + t ≡ t = omega arith in
     ap (λ (x : ℕ). length (pageOf pages x)) z ∙ ap length (page-there pages t (omega arith)) ∙ simp (length-take, length-drop) (omega arith)
 
-module _ (n : ℕ) (m : Mem) (pages : List ℕ) (cs : List Change) (sync j k : ℕ) where
-  pub refused-at : syncSays n m pages cs sync ≡ saidRefusedAt j k → RefusedAt n m pages cs sync j k
+module _ (n : ℕ) (m : Mem) (pages : List ℕ) (cs : List Change) (start : Start) (j k : ℕ) where
+  pub refused-at : syncSays n m pages cs start ≡ saidRefusedAt j k → RefusedAt n m pages cs start j k
   unfolding syncSays syncMem syncWriter
   refused-at e =
-      let x = left n m pages cs sync in
-      let st = came n m pages cs sync .state in
-      let q = at-change (beforeChanges n m pages (length cs)) (came n m pages cs sync .came) st x j k e in
+      let x = left n m pages cs start in
+      let st = came n m pages cs start .state in
+      let q = at-change (beforeChanges n m pages (length cs)) (came n m pages cs start .came) st x j k e in
       let b = start-passed n m pages (length cs) (q .0) in
-      let fit : Fit (startState n m) (startMem m sync) = record { tags-fit = b .0; marks-fit = length-replicate (length (m .marks)) 0 ∙ b .2; is-open = refl } in
-      let s = stops-at pages cs (startMem m sync) 0 (startState n m) j k fit (page-long pages (length cs) (b .1)) (q .1) in
+      let fit : Fit (startState n m start) (startMem m start) = record { tags-fit = b .0; marks-fit = length-replicate (length (m .marks)) 0 ∙ b .2; is-open = refl } in
+      let s = stops-at pages cs (startMem m start) 0 (startState n m start) j k fit (page-long pages (length cs) (b .1)) (q .1) in
       let here : s .t ≡ j = omega (arith, s .place) in
-      let whole : syncMem n m pages cs sync ≡ x = ap₂ (λ (a : Answer (Unit {0})) (c : Came). keptIf a m (memOf (x .tags) (x .marks) (x .cells) (logAfter c st x))) (q .0) (q .1) in
+      let whole : syncMem n m pages cs start ≡ x = ap₂ (λ (a : Answer (Unit {0})) (c : Came). keptIf a m (memOf (x .tags) (x .marks) (x .cells) (logAfter c st x))) (q .0) (q .1) in
       record {
         within = omega (arith, s .within);
         number = s .number;
-        came-to = ap (λ (i : ℕ). came n m pages (take i cs) sync .came) (sym here) ∙ s .came-to ∙ ap through (sym (s .place));
-        memory = whole ∙ s .memory ∙ ap (λ (i : ℕ). left n m pages (take i cs) sync) here;
+        came-to = ap (λ (i : ℕ). came n m pages (take i cs) start .came) (sym here) ∙ s .came-to ∙ ap through (sym (s .place));
+        memory = whole ∙ s .memory ∙ ap (λ (i : ℕ). left n m pages (take i cs) start) here;
         fresh = λ w. ap₂ (λ (a : Answer (Unit {0})) (c : Came). keptIf a w (writerAfter c st x)) (q .0) (q .1);
       }

@@ -2,7 +2,7 @@
 use mathlib.Core.Path.{_≡_, refl, ap, ap₂, _∙_}
 use mathlib.Core.Bool.{Bool, true, cond, _&&_}
 use mathlib.Core.List.{List, [], _∷_}
-use Prim.Native.Nat.{ℕ, _+_, _<_, _^_}
+use Prim.Native.Nat.{ℕ, _+_, _<_}
 use lib.Dec.{ltb}
 use lib.ListN.{length, take}
 use borrow.Author.Tests.{lt-ltb}
@@ -10,8 +10,11 @@ use Rattle.answers.specs.Answers.{Answer, given, refused}
 use Rattle.ht_file.specs.Places.{imageFits}
 use Rattle.probe.specs.Path.{allocating}
 use Rattle.probe.proofs.Allocating.{answer-below}
-use Rattle.recover.specs.Replay.{applied, allInside, updatesIn, replayAnswer}
+use Rattle.recover.specs.Replay.{applied, allInside, updatesIn, replayAnswer, Own}
+use Rattle.recover.specs.declared.Expected.{Expected}
 use Rattle.recover.proofs.Acceptance.{finished-accepted}
+use Rattle.wal.specs.Run.{WideStart}
+use Rattle.wal.specs.declared.Start.{Start}
 use Rattle.sync.specs.Change.{AllWide, Mem, doesOf, Effect, cleared, updated, allocated, bucketOf, effectOf, memBy, stateBy}
 use Rattle.sync.specs.Sync.{pageOf, changeAt, changeMem, entriesBy, entriesOf, startMem, startState, saidDone, came, left, syncSays, syncMem}
 use Rattle.sync.specs.declared.Change.{Change}
@@ -48,10 +51,10 @@ all-inside pages (c ∷ cs) m j st = go (effectOf st m (pageOf pages j) c) refl 
         ap₂ _&&_ (ap (λ (b : ℕ). ltb b (st .n)) (entry-bucket c (pageOf pages j) e) ∙ lt-ltb (bucketOf e) (st .n) (bucket-inside st m (pageOf pages j) c e h))
         (rest (memBy (given e) st m (pageOf pages j) c) (j + 1) (stateBy (given e) st c))
 
-pub done-replays : (n : ℕ) (m : Mem) (pages : List ℕ) (cs : List Change) (sync o len : ℕ) (sized : AllWide cs) (h : syncSays n m pages cs sync ≡ saidDone o len) → sync < 2 ^ 32
-    → (table hashes : List ℕ) → imageFits n (length table) ≡ true → length hashes ≡ updatesIn (entriesOf (startMem m sync) pages cs 0 (startState n m))
-    → replayAnswer n table (take len (syncMem n m pages cs sync .log)) sync hashes ≡ given applied
-done-replays n m pages cs sync o len sized h small table hashes fits e =
-    ap₂ (λ (k : ℕ) (x : List ℕ). replayAnswer n table (take k x) sync hashes) (done-length n m pages cs sync o len sized small h) (done-log n m pages cs sync o len sized small h)
-    ∙ finished-accepted (m .log) sync (came n m pages cs sync .state .writer) (left n m pages cs sync .log) (entriesOf (startMem m sync) pages cs 0 (startState n m)) (done-run n m pages cs sync o len sized small h) n table hashes
-    (all-inside pages cs (startMem m sync) 0 (startState n m)) fits e
+pub done-replays : (n : ℕ) (m : Mem) (pages : List ℕ) (cs : List Change) (start : Start) (o len : ℕ) (sized : AllWide cs) (h : syncSays n m pages cs start ≡ saidDone o len) → WideStart start
+    → (want : Expected) → Own start want → (table hashes : List ℕ) → imageFits n (length table) ≡ true → length hashes ≡ updatesIn (entriesOf (startMem m start) pages cs 0 (startState n m start))
+    → replayAnswer n table (take len (syncMem n m pages cs start .log)) want hashes ≡ given applied
+done-replays n m pages cs start o len sized h small want own table hashes fits e =
+    ap₂ (λ (k : ℕ) (x : List ℕ). replayAnswer n table (take k x) want hashes) (done-length n m pages cs start o len sized small h) (done-log n m pages cs start o len sized small h)
+    ∙ finished-accepted (m .log) start (came n m pages cs start .state .writer) (left n m pages cs start .log) (entriesOf (startMem m start) pages cs 0 (startState n m start)) (done-run n m pages cs start o len sized small h) want own n table hashes
+    (all-inside pages cs (startMem m start) 0 (startState n m start)) fits e

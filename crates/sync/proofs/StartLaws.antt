@@ -2,7 +2,7 @@
 use mathlib.Core.Path.{_≡_, refl, sym, ap, _∙_}
 use mathlib.Core.Bool.{Bool, true, cond}
 use mathlib.Core.List.{List, [], _∷_}
-use Prim.Native.Nat.{ℕ, _*_, _/_, _^_, _≤_, _<_}
+use Prim.Native.Nat.{ℕ, _*_, _/_, _≤_, _<_}
 use native.Mathlib.Omega.{arith}
 use mathlib.Core.Logic.{⊎-elim}
 use lib.ListN.{length, take, drop}
@@ -23,6 +23,8 @@ use Rattle.wal.specs.Log.{startRecord, startSize}
 use Rattle.wal.specs.Writer.{openAt, logBy, writerBy, beginAnswer, beginLog, beginWriter}
 use Rattle.wal.specs.declared.Writer.{Writer}
 use Rattle.wal.specs.declared.Writer.the-variants.{Fresh}
+use Rattle.wal.specs.Run.{WideStart}
+use Rattle.wal.specs.declared.Start.{Start}
 use Rattle.sync.specs.Change.{Mem, memOf, Effect, effectOf, memBy, stateBy, pageNumber, takenSaid}
 use Rattle.sync.specs.Sync.{pageOf, cameBy, Going, on, unbegun, stopped, runSaid, goingBy, changeAt, changeMem, changeGoing, changeLeft, beforeChanges, startMem, startState, startGoing, keptIf}
 use Rattle.sync.specs.declared.Change.{Change}
@@ -111,26 +113,26 @@ module _ (n : ℕ) (t k l pages : List ℕ) (count : ℕ) where
   unfolding beforeChanges
   start-begin h p q = simp (h, eq-eqb (length pages) (4096 * count) p, eq-eqb (length k) (tagPages n) q)
 
-  module _ (sync : ℕ) (w : Writer) (wide : sync < 2 ^ 32) where
+  module _ (start : Start) (w : Writer) (wide : WideStart start) where
     abbrev pub Begins : Going → Mem → Type 0
-    Begins g x = (g ≡ startGoing before (startState n m) w) × ((x ≡ keptIf before m (startMem m sync)) × (sync < 2 ^ 32))
+    Begins g x = (g ≡ startGoing before (startState n m start) w) × ((x ≡ keptIf before m (startMem m start)) × (WideStart start))
 
     pub begin-refused : (j : ℕ) → before ≡ refused j → Begins (unbegun j w) m
     begin-refused j h = (
-      sym (ap (λ (a : Answer (Unit {0})). startGoing a (startState n m) w) h),
-      (sym (ap (λ (a : Answer (Unit {0})). keptIf a m (startMem m sync)) h), wide),
+      sym (ap (λ (a : Answer (Unit {0})). startGoing a (startState n m start) w) h),
+      (sym (ap (λ (a : Answer (Unit {0})). keptIf a m (startMem m start)) h), wide),
     )
 
-    pub begin-given : (s : SyncState) (x : Mem) → before ≡ given tt → s ≡ startState n m → x ≡ startMem m sync → Begins (on s) x
+    pub begin-given : (s : SyncState) (x : Mem) → before ≡ given tt → s ≡ startState n m start → x ≡ startMem m start → Begins (on s) x
     begin-given s x h a b = (
-      ap on a ∙ sym (ap (λ (y : Answer (Unit {0})). startGoing y (startState n m) w) h),
-      (b ∙ sym (ap (λ (y : Answer (Unit {0})). keptIf y m (startMem m sync)) h), wide),
+      ap on a ∙ sym (ap (λ (y : Answer (Unit {0})). startGoing y (startState n m start) w) h),
+      (b ∙ sym (ap (λ (y : Answer (Unit {0})). keptIf y m (startMem m start)) h), wide),
     )
 
 -- begin's answer: a refused one leaves the log, an accepted one opens the writer
-module _ (l : List ℕ) (sync : ℕ) where
-  pub begun-left : (j : ℕ) → beginAnswer l ≡ refused j → beginLog l sync ≡ l
-  begun-left j h = ap (λ (a : Answer (Unit {0})). logBy a l 0 (startRecord sync)) h
+module _ (l : List ℕ) (start : Start) where
+  pub begun-left : (j : ℕ) → beginAnswer l ≡ refused j → beginLog l start ≡ l
+  begun-left j h = ap (λ (a : Answer (Unit {0})). logBy a l 0 (startRecord start)) h
 
-  pub begun-open : beginAnswer l ≡ given tt → beginWriter l Fresh ≡ openAt startSize
-  begun-open h = ap (λ (a : Answer (Unit {0})). writerBy a Fresh (openAt startSize)) h
+  pub begun-open : beginAnswer l ≡ given tt → beginWriter l Fresh (start .edition) ≡ openAt (start .edition) (startSize (start .edition))
+  begun-open h = ap (λ (a : Answer (Unit {0})). writerBy a Fresh (openAt (start .edition) (startSize (start .edition)))) h

@@ -15,8 +15,8 @@ use Rattle.blocks.specs.Blocks.{put}
 use Rattle.ht_file.specs.Places.{tagPages, tagsFit, bucketPage, ifTable}
 use Rattle.ht_file.proofs.Laws.{table-unfit}
 use Rattle.page_diff.specs.Diff.{countOf, reserved}
-use Rattle.wal.specs.Log.{clear, recordOf, clearSize, updateSize}
-use Rattle.wal.specs.Writer.{position, ifOpen, clearAnswer, recordLog, recordWriter}
+use Rattle.wal.specs.Log.{clear, recordOf, clearBody, updateBody, clearSize, updateSize}
+use Rattle.wal.specs.Writer.{openAt, position, editionOf, ifOpen, clearAnswer, recordLog, recordWriter}
 use Rattle.wal.specs.declared.Writer.{Writer}
 use Rattle.wal.specs.declared.Writer.the-variants.{Fresh, Open, Finished}
 use Rattle.wal.proofs.Writer as WriterT
@@ -36,46 +36,46 @@ Opened w = OneOf (1 ∷ []) (tagOf WriterT.the-type w)
 module _ {A : Type 0} (a : Answer A) where
   open-goes : (w : Writer) → Opened w → ifOpen w a ≡ a
   open-goes Fresh o = absurd (omega arith)
-  open-goes (Open p) o = refl
+  open-goes (Open p ed) o = refl
   open-goes (Finished n) o = absurd (omega arith)
 
   closed-stops : (w : Writer) → NotOpen w → ifOpen w a ≡ refused 12
   closed-stops Fresh o = refl
-  closed-stops (Open p) o = absurd (⊎-elim (λ (e : 1 ≡ 0). omega arith) (λ (e : 1 ≡ 2). omega arith) o)
+  closed-stops (Open p ed) o = absurd (⊎-elim (λ (e : 1 ≡ 0). omega arith) (λ (e : 1 ≡ 2). omega arith) o)
   closed-stops (Finished n) o = refl
 
 -- the two records that a change writes are taken where there is room
 module _ (w : Writer) (l : List ℕ) where
-  pub clear-taken : Opened w → roomIn (length l) w clearSize ≡ true → clearAnswer l w ≡ given tt
+  pub clear-taken : Opened w → roomIn (length l) w clearBody ≡ true → clearAnswer l w ≡ given tt
   clear-taken o r = clear-tests l w ∙ go w o r
     where
-      go : (v : Writer) → Opened v → roomIn (length l) v clearSize ≡ true → tested l v true false clearSize (given (tt {0})) ≡ given (tt {0})
+      go : (v : Writer) → Opened v → roomIn (length l) v clearBody ≡ true → tested l v true false clearSize (given (tt {0})) ≡ given (tt {0})
       go Fresh o r = absurd (omega arith)
-      go (Open p) o r = taken l (Open p) true false clearSize (given tt) p refl refl refl r
+      go (Open p ed) o r = taken l (Open p ed) true false clearSize (given tt) ed p refl refl refl r
       go (Finished n) o r = absurd (omega arith)
 
-  pub page-taken : (ws page : List ℕ) → Opened w → length page ≡ 4096 → reserved ws ≡ false → roomIn (length l) w (updateSize (countOf ws)) ≡ true → pageUpdateAnswer l w ws page ≡ given tt
+  pub page-taken : (ws page : List ℕ) → Opened w → length page ≡ 4096 → reserved ws ≡ false → roomIn (length l) w (updateBody (countOf ws)) ≡ true → pageUpdateAnswer l w ws page ≡ given tt
   page-taken ws page o k f r = page-tests l w ws page ∙ go w o r
     where
-      go : (v : Writer) → Opened v → roomIn (length l) v (updateSize (countOf ws)) ≡ true → tested l v (eqb (length page) 4096) (reserved ws) (updateSize (countOf ws)) (given (tt {0})) ≡ given (tt {0})
+      go : (v : Writer) → Opened v → roomIn (length l) v (updateBody (countOf ws)) ≡ true → tested l v (eqb (length page) 4096) (reserved ws) (λ ed. updateSize ed (countOf ws)) (given (tt {0})) ≡ given (tt {0})
       go Fresh o r = absurd (omega arith)
-      go (Open p) o r = taken l (Open p) (eqb (length page) 4096) (reserved ws) (updateSize (countOf ws)) (given tt) p refl (eq-eqb (length page) 4096 k) f r
+      go (Open p ed) o r = taken l (Open p ed) (eqb (length page) 4096) (reserved ws) (λ ed. updateSize ed (countOf ws)) (given tt) ed p refl (eq-eqb (length page) 4096 k) f r
       go (Finished n) o r = absurd (omega arith)
 
   -- so this is the state, and this the log
   module _ (h : clearAnswer l w ≡ given tt) where
-    pub clear-state : clearWriter l w ≡ Open (position w + clearSize)
-    clear-state = ap (λ (a : Answer (Unit {0})). recordWriter a w clearSize) h
+    pub clear-state : clearWriter l w ≡ openAt (editionOf w) (position w + clearSize (editionOf w))
+    clear-state = ap (λ (a : Answer (Unit {0})). recordWriter a w (clearSize (editionOf w))) h
 
-    pub clear-bytes : (b : ℕ) → clearLog l w b ≡ put l (position w) (recordOf (clear b))
-    clear-bytes b = ap (λ (a : Answer (Unit {0})). recordLog a l w (recordOf (clear b))) h
+    pub clear-bytes : (b : ℕ) → clearLog l w b ≡ put l (position w) (recordOf (editionOf w) (clear b))
+    clear-bytes b = ap (λ (a : Answer (Unit {0})). recordLog a l w (recordOf (editionOf w) (clear b))) h
 
   module _ (ws page : List ℕ) (h : pageUpdateAnswer l w ws page ≡ given tt) where
-    pub page-state : pageUpdateWriter l w ws page ≡ Open (position w + updateSize (countOf ws))
-    page-state = ap (λ (a : Answer (Unit {0})). recordWriter a w (updateSize (countOf ws))) h
+    pub page-state : pageUpdateWriter l w ws page ≡ openAt (editionOf w) (position w + updateSize (editionOf w) (countOf ws))
+    page-state = ap (λ (a : Answer (Unit {0})). recordWriter a w (updateSize (editionOf w) (countOf ws))) h
 
-    pub page-bytes : (id : List ℕ) (b : ℕ) → pageUpdateLog l w id ws page b ≡ put l (position w) (recordOf (pageUpdate id ws page b))
-    page-bytes id b = ap (λ (a : Answer (Unit {0})). recordLog a l w (recordOf (pageUpdate id ws page b))) h
+    pub page-bytes : (id : List ℕ) (b : ℕ) → pageUpdateLog l w id ws page b ≡ put l (position w) (recordOf (editionOf w) (pageUpdate id ws page b))
+    page-bytes id b = ap (λ (a : Answer (Unit {0})). recordLog a l w (recordOf (editionOf w) (pageUpdate id ws page b))) h
 
 module _ (st : SyncState) (t ks cs l page : List ℕ) (c : Change) where
   abbrev effect : Answer Effect
@@ -128,8 +128,8 @@ module _ (st : SyncState) (t ks cs l page : List ℕ) (c : Change) where
       }
 
   pub given-left : (e : Effect) (r : StepAnswer) (t′ ks′ cs′ l′ : List ℕ) → effect ≡ given e → takenSaid (r .taken) ≡ given (bucketOf e, bucketPage (st .n) (bucketOf e))
-      → r .state ≡ stateOf (st .n) (st .limit) (Open (position (st .writer) + sizeBy c e)) (occupiedBy e (st .occupied)) → t′ ≡ tagsBy e (c .hash) t → ks′ ≡ marksBy e ks → cs′ ≡ cellsBy e (whereOf (c .place)) cs
-      → l′ ≡ put l (position (st .writer)) (recordOf (entryBy c page e)) → Wide c → Left r (memOf t′ ks′ cs′ l′)
+      → r .state ≡ stateOf (st .n) (st .limit) (openAt (editionOf (st .writer)) (position (st .writer) + sizeBy (editionOf (st .writer)) c e)) (occupiedBy e (st .occupied)) → t′ ≡ tagsBy e (c .hash) t → ks′ ≡ marksBy e ks → cs′ ≡ cellsBy e (whereOf (c .place)) cs
+      → l′ ≡ put l (position (st .writer)) (recordOf (editionOf (st .writer)) (entryBy c page e)) → Wide c → Left r (memOf t′ ks′ cs′ l′)
   given-left e r t′ ks′ cs′ l′ h a b et ek ec el w =
       record {
         taken = a ∙ sym (ap (pageNumber st) h);

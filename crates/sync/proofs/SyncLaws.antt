@@ -2,9 +2,11 @@
 -- the rest does not matter. Assumes nothing.
 use mathlib.Core.Path.{_≡_, refl, sym, ap, _∙_, subst}
 use mathlib.Core.List.{List, []}
-use Prim.Native.Nat.{ℕ, _<_, _^_}
+use Prim.Native.Nat.{ℕ}
 use lib.ListN.{length}
 use Rattle.answers.specs.Answers.{Answer, given, refused}
+use Rattle.wal.specs.Run.{WideStart}
+use Rattle.wal.specs.declared.Start.{Start}
 use Rattle.sync.specs.Change.{AllWide, Mem, memOf}
 use Rattle.sync.specs.Sync.{beforeChanges, startMem, startState, startGoing, keptIf, saidIf, came, left, Going, on, unbegun, goingBy, endSaid, endLog, endWriter, SyncSaid, saidDone, saidRefused, saidRefusedAt, syncSays, syncMem, syncWriter, widthsBy, SyncPromise, syncedSaid, BeginPromise, EndPromise, runSaid}
 use Rattle.sync.specs.declared.Change.{Change}
@@ -18,10 +20,10 @@ abbrev with-cells : List ℕ → Mem → Mem
 with-cells c x = memOf (x .tags) (x .marks) c (x .log)
 
 -- the widths, whatever is said
-said-widths : (x : SyncSaid) (cs : List Change) (sync : ℕ) → AllWide cs → sync < 2 ^ 32 → widthsBy x cs sync
-said-widths (saidDone o l) cs sync w h = (w, h)
-said-widths (saidRefused k) cs sync w h = tt
-said-widths (saidRefusedAt j k) cs sync w h = tt
+said-widths : (x : SyncSaid) (cs : List Change) (start : Start) → AllWide cs → WideStart start → widthsBy x cs start
+said-widths (saidDone o l) cs start w h = (w, h)
+said-widths (saidRefused k) cs start w h = tt
+said-widths (saidRefusedAt j k) cs start w h = tt
 
 module _ (s : SyncStart) (t k c l pages : List ℕ) (cs : List Change) where
   abbrev m : Mem
@@ -30,8 +32,8 @@ module _ (s : SyncStart) (t k c l pages : List ℕ) (cs : List Change) where
   abbrev n : ℕ
   n = s .n
 
-  abbrev sync : ℕ
-  sync = s .«sync_seqn»
+  abbrev start : Start
+  start = s .«log_start»
 
   -- the memory of the start, which is lent no cells
   abbrev lent : Mem
@@ -39,21 +41,21 @@ module _ (s : SyncStart) (t k c l pages : List ℕ) (cs : List Change) where
 
   -- where the changes came to from the start, and what they left
   abbrev g′ : Going
-  g′ = goingBy (came n m pages cs sync .came) (came n m pages cs sync .state)
+  g′ = goingBy (came n m pages cs start .came) (came n m pages cs start .state)
 
   abbrev z′ : Mem
-  z′ = left n m pages cs sync
+  z′ = left n m pages cs start
 
   -- what is said where the sync goes so, over this memory
   abbrev Whole : Going → Mem → Type 0
   Whole g z =
-      (endSaid g (z .log) ≡ syncSays n m pages cs sync) ×
-      ((endWriter g (z .log) ≡ syncWriter n m pages cs sync (s .writer)) × (memOf (z .tags) (z .marks) (z .cells) (endLog g (z .log)) ≡ syncMem n m pages cs sync))
+      (endSaid g (z .log) ≡ syncSays n m pages cs start) ×
+      ((endWriter g (z .log) ≡ syncWriter n m pages cs start (s .writer)) × (memOf (z .tags) (z .marks) (z .cells) (endLog g (z .log)) ≡ syncMem n m pages cs start))
 
   -- by the answer to the tests
   by-tests : (a : Answer (Unit {0})) → beforeChanges n lent pages (length cs) ≡ a
-      → (saidIf a (endSaid g′ (z′ .log)) ≡ syncSays n m pages cs sync) × ((keptIf a (s .writer) (endWriter g′ (z′ .log)) ≡ syncWriter n m pages cs sync (s .writer)) ×
-      (keptIf a m (memOf (z′ .tags) (z′ .marks) (z′ .cells) (endLog g′ (z′ .log))) ≡ syncMem n m pages cs sync))
+      → (saidIf a (endSaid g′ (z′ .log)) ≡ syncSays n m pages cs start) × ((keptIf a (s .writer) (endWriter g′ (z′ .log)) ≡ syncWriter n m pages cs start (s .writer)) ×
+      (keptIf a m (memOf (z′ .tags) (z′ .marks) (z′ .cells) (endLog g′ (z′ .log))) ≡ syncMem n m pages cs start))
   unfolding beforeChanges syncSays syncWriter syncMem
   by-tests a is = (
     sym (ap (λ (b : Answer (Unit {0})). saidIf b (endSaid g′ (z′ .log))) is),
@@ -63,15 +65,15 @@ module _ (s : SyncStart) (t k c l pages : List ℕ) (cs : List Change) where
     ),
   )
 
-  by-start : (a : Answer (Unit {0})) → beforeChanges n lent pages (length cs) ≡ a → (x : Mem) → x ≡ with-cells c (keptIf a lent (startMem lent sync))
-      → (g : Going) (z : Mem) → goesOn x pages cs 0 (startGoing a (startState n lent) (s .writer)) ≡ (g, z) → Whole g z
+  by-start : (a : Answer (Unit {0})) → beforeChanges n lent pages (length cs) ≡ a → (x : Mem) → x ≡ with-cells c (keptIf a lent (startMem lent start))
+      → (g : Going) (z : Mem) → goesOn x pages cs 0 (startGoing a (startState n lent start) (s .writer)) ≡ (g, z) → Whole g z
   by-start (refused j) is x e g z walked =
       let same : _≡_ {A = Going × Mem} (unbegun j (s .writer), m) (g, z) =
       sym (goes-unbegun m pages cs 0 j (s .writer)) ∙ ap (λ (y : Mem). goesOn y pages cs 0 (unbegun j (s .writer))) (sym e) ∙ walked in
       subst (λ (p : Going × Mem). Whole (p .0) (p .1)) same (by-tests (refused j) is)
   by-start (given u) is x e g z walked =
       let same : _≡_ {A = Going × Mem} (g′, z′) (g, z) =
-      sym (goes-on pages cs (startMem m sync) 0 (startState n m)) ∙ ap (λ (y : Mem). goesOn y pages cs 0 (on (startState n m))) (sym e) ∙ walked in
+      sym (goes-on pages cs (startMem m start) 0 (startState n m start)) ∙ ap (λ (y : Mem). goesOn y pages cs 0 (on (startState n m start))) (sym e) ∙ walked in
       subst (λ (p : Going × Mem). Whole (p .0) (p .1)) same (by-tests (given u) is)
 
   pub whole : (k′ l′ : List ℕ) (r₀ r : Run) (z0 z1 z2 z3 : List ℕ) → BeginPromise s lent pages (length cs) r₀ (memOf t k′ [] l′)
@@ -84,5 +86,5 @@ module _ (s : SyncStart) (t k c l pages : List ℕ) (cs : List Change) where
         says = ended .0 ∙ w .0;
         writer = ended .1 .0 ∙ w .1 .0;
         memory = ap (memOf z0 z1 z2) (ended .1 .1) ∙ w .1 .1;
-        widths = said-widths (syncedSaid (a .synced)) cs sync wide (begun .1 .1);
+        widths = said-widths (syncedSaid (a .synced)) cs start wide (begun .1 .1);
       }

@@ -9,6 +9,7 @@ use denote.Builtin.{u64}
 use denote.Laws.{Is}
 use denote.Shadow.{shadow}
 use borrow.Author.Needs.{needs}
+use Rattle.wal.specs.Run.{WideStart}
 use Rattle.sync.specs.Change.{Wide, AllWide, none-wide, more-wide}
 use Rattle.sync.specs.declared.Change.{Change}
 use Rattle.sync.specs.declared.SyncStart.{SyncStart}
@@ -32,9 +33,9 @@ typed-wide c vs is =
       high-word = elements-fit (c .diff .words) (words .0) (words .1 .1) 1;
     }
 
--- the width of a sync's number
-pub typed-number : (s : SyncStart) (vs : List Val) → Is S.the-row s vs → s .«sync_seqn» < 2 ^ 32
-typed-number s vs is = search needs
+-- the widths of what a sync's log starts with
+pub typed-start : (s : SyncStart) (vs : List Val) → Is S.the-row s vs → WideStart (s .«log_start»)
+typed-start s vs is = record { number = search needs; seed-long = search needs }
 
 -- all of a list are, where each is
 pub all-wide : (d : Change) (cs : List Change) → ((i : ℕ) → i < length cs → Wide (getD cs i d)) → AllWide cs

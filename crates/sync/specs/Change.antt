@@ -15,7 +15,8 @@ use Rattle.probe.specs.Path.{allocating}
 use Rattle.probe.specs.declared.Limit.{Limit}
 use Rattle.wal.specs.Log.{Entry, clear, recordOf, clearSize, updateSize}
 use Rattle.wal.specs.Run.{WideChange}
-use Rattle.wal.specs.Writer.{openAt, position, ifOpen, ifRoom}
+use Rattle.wal.specs.Writer.{openAt, position, editionOf, ifOpen, ifRoom}
+use Rattle.wal.specs.declared.Edition.{Edition}
 use Rattle.wal.specs.declared.Writer.{Writer}
 use Rattle.sync.specs.declared.Change.{Change}
 use Rattle.sync.specs.declared.Where.{Where}
@@ -121,10 +122,10 @@ byBucket (refused k) = refused k
 -- "13, 10 or 11": the room is tested before the bucket is sought
 abbrev pub afterDoes : SyncState → Mem → Change → Answer Does → Answer Effect
 afterDoes st m c (refused k) = refused k
-afterDoes st m c (given (clears b)) = ifRoom (m .log) (st .writer) clearSize (given (cleared b))
-afterDoes st m c (given (updates b)) = ifRoom (m .log) (st .writer) (updateSize (countOf (c .diff .words))) (given (updated b))
+afterDoes st m c (given (clears b)) = ifRoom (m .log) (st .writer) (clearSize (editionOf (st .writer))) (given (cleared b))
+afterDoes st m c (given (updates b)) = ifRoom (m .log) (st .writer) (updateSize (editionOf (st .writer)) (countOf (c .diff .words))) (given (updated b))
 afterDoes st m c (given allocates) =
-    ifRoom (m .log) (st .writer) (updateSize (countOf (c .diff .words))) (byBucket (allocating (st .limit) (m .tags) (st .n) (c .hash)))
+    ifRoom (m .log) (st .writer) (updateSize (editionOf (st .writer)) (countOf (c .diff .words))) (byBucket (allocating (st .limit) (m .tags) (st .n) (c .hash)))
 
 -- the single step's own refusals first: 1 for the tags, 2 for the page and the marks, 12 for the writer
 unfoldable pub effectOf : SyncState → Mem → List ℕ → Change → Answer Effect
@@ -144,10 +145,10 @@ entryBy c page (cleared b) = clear b
 entryBy c page (updated b) = updateBy c page b
 entryBy c page (allocated b) = updateBy c page b
 
-abbrev pub sizeBy : Change → Effect → ℕ
-sizeBy c (cleared b) = clearSize
-sizeBy c (updated b) = updateSize (countOf (c .diff .words))
-sizeBy c (allocated b) = updateSize (countOf (c .diff .words))
+abbrev pub sizeBy : Edition → Change → Effect → ℕ
+sizeBy ed c (cleared b) = clearSize ed
+sizeBy ed c (updated b) = updateSize ed (countOf (c .diff .words))
+sizeBy ed c (allocated b) = updateSize ed (countOf (c .diff .words))
 
 -- "Tag becomes a tombstone"; allocation "writes the full tag"
 abbrev pub tagsBy : Effect → ℕ → List ℕ → List ℕ
@@ -193,7 +194,7 @@ cellsIf (given e) w cells = cellsBy e w cells
 
 abbrev pub logIf : Answer Effect → Writer → Change → List ℕ → List ℕ → List ℕ
 logIf (refused k) w c page log = log
-logIf (given e) w c page log = put log (position w) (recordOf (entryBy c page e))
+logIf (given e) w c page log = put log (position w) (recordOf (editionOf w) (entryBy c page e))
 
 abbrev pub memBy : Answer Effect → SyncState → Mem → List ℕ → Change → Mem
 memBy a st m page c =
@@ -204,7 +205,7 @@ stateOf n limit w o = record { n = n; limit = limit; writer = w; occupied = o }
 
 abbrev pub stateBy : Answer Effect → SyncState → Change → SyncState
 stateBy (refused k) st c = st
-stateBy (given e) st c = stateOf (st .n) (st .limit) (openAt (position (st .writer) + sizeBy c e)) (occupiedBy e (st .occupied))
+stateBy (given e) st c = stateOf (st .n) (st .limit) (openAt (editionOf (st .writer)) (position (st .writer) + sizeBy (editionOf (st .writer)) c e)) (occupiedBy e (st .occupied))
 
 -- "Each step answers bucket and page number M+b"
 abbrev pub pageNumber : SyncState → Answer Effect → Answer (ℕ × ℕ)

@@ -7,7 +7,7 @@ use lib.ListN.{length}
 use Rattle.answers.specs.Answers.{Answer, given, refused}
 use Rattle.answers.specs.Refusals.{numberOf}
 use Rattle.page_diff.specs.Diff.{countOf, reserved}
-use Rattle.wal.specs.Log.{clearSize, updateSize}
+use Rattle.wal.specs.Log.{clearBody, updateBody}
 use Rattle.wal_write.specs.Calls.{roomIn}
 use Rattle.sync.specs.Change.{Mem, Named, bucket, none, Does, clears, updates, allocates, doesOf, Effect, cleared, updated, allocated, afterDoes}
 use Rattle.sync.specs.declared.Change.{Change}
@@ -39,11 +39,11 @@ outlookSaid (O.Refused r) = refused (numberOf r)
 
 -- what an outlook that is no refusal rests on: the bucket is inside the table, its record has room, and an update's diff marks nodes alone
 abbrev pub outlookFits : Outlook → SyncState → List ℕ → Change → Type 0
-outlookFits (O.Clears b) st log c = (b < st .n) × (roomIn (length log) (st .writer) clearSize ≡ true)
+outlookFits (O.Clears b) st log c = (b < st .n) × (roomIn (length log) (st .writer) clearBody ≡ true)
 outlookFits (O.Updates b) st log c =
-    (b < st .n) × (roomIn (length log) (st .writer) (updateSize (countOf (c .diff .words))) ≡ true) × (reserved (c .diff .words) ≡ false)
+    (b < st .n) × (roomIn (length log) (st .writer) (updateBody (countOf (c .diff .words))) ≡ true) × (reserved (c .diff .words) ≡ false)
 outlookFits (O.Takes b) st log c =
-    (b < st .n) × (roomIn (length log) (st .writer) (updateSize (countOf (c .diff .words))) ≡ true) × (reserved (c .diff .words) ≡ false)
+    (b < st .n) × (roomIn (length log) (st .writer) (updateBody (countOf (c .diff .words))) ≡ true) × (reserved (c .diff .words) ≡ false)
 outlookFits (O.Refused r) st log c = Unit {0}
 
 -- what the look ahead promises: what the change comes to, and what that rests on

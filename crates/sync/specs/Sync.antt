@@ -1,8 +1,8 @@
--- 01, 'Sync': the changes one after another, and the whole sync. Assumes nothing.
+-- 01, 'Sync', and 02, W-207: the changes one after another, and the whole sync. Assumes nothing.
 use mathlib.Core.Path.{_≡_}
 use mathlib.Core.Bool.{cond, _&&_}
 use mathlib.Core.List.{List, [], _∷_}
-use Prim.Native.Nat.{ℕ, _+_, _*_, _/_, _^_, _<_}
+use Prim.Native.Nat.{ℕ, _+_, _*_, _/_}
 use lib.Dec.{ltb, eqb}
 use lib.ListN.{length, take, drop, replicate}
 use Rattle.answers.specs.Answers.{Answer, given, refused}
@@ -13,6 +13,8 @@ use Rattle.page_diff.specs.Diff.{marked}
 use Rattle.probe.specs.Path.{hitLimit}
 use Rattle.wal.specs.Log.{Entry, startSize}
 use Rattle.wal.specs.Writer.{openAt, beginAnswer, beginLog, finishAnswer, finishLog, finishWriter}
+use Rattle.wal.specs.Run.{WideStart}
+use Rattle.wal.specs.declared.Start.{Start}
 use Rattle.wal.specs.declared.Writer.{Writer}
 use Rattle.wal.specs.declared.Writer.the-variants.{Fresh}
 use Rattle.sync.specs.Change.{AllWide, Mem, memOf, Effect, effectOf, entryBy, memBy, stateOf, stateBy}
@@ -110,12 +112,12 @@ beforeChanges n m pages count =
     ifTags (m .tags) n (cond (eqb (length pages) (4096 * count) && eqb (length (m .marks)) (tagPages n)) (beginAnswer (m .log)) (refused 2))
 
 -- "marks .. zeroed at the start"; the log is begun
-abbrev pub startMem : Mem → ℕ → Mem
-startMem m sync = memOf (m .tags) (replicate (length (m .marks)) 0) (m .cells) (beginLog (m .log) sync)
+abbrev pub startMem : Mem → Start → Mem
+startMem m start = memOf (m .tags) (replicate (length (m .marks)) 0) (m .cells) (beginLog (m .log) start)
 
 -- "Occupied starts as the number of full tags"; allocation's limit is "at most 9,998 hits"
-abbrev pub startState : ℕ → Mem → SyncState
-startState n m = stateOf n hitLimit (openAt startSize) (countOf full (m .tags) n)
+abbrev pub startState : ℕ → Mem → Start → SyncState
+startState n m start = stateOf n hitLimit (openAt (start .edition) (startSize (start .edition))) (countOf full (m .tags) n)
 
 -- what the whole sync says: occupied and the log's length; a refusal; or a refusal at change j
 pub data SyncSaid : Type 0 where
@@ -159,11 +161,11 @@ syncedSaid (synced.Refused r) = saidRefused (numberOf r)
 syncedSaid (synced.RefusedAt j r) = saidRefusedAt j (numberOf r)
 
 -- the changes from the start
-abbrev pub came : ℕ → Mem → List ℕ → List Change → ℕ → CameTo
-came n m pages cs sync = allOf (startMem m sync) pages cs 0 (startState n m)
+abbrev pub came : ℕ → Mem → List ℕ → List Change → Start → CameTo
+came n m pages cs start = allOf (startMem m start) pages cs 0 (startState n m start)
 
-abbrev pub left : ℕ → Mem → List ℕ → List Change → ℕ → Mem
-left n m pages cs sync = memAll (startMem m sync) pages cs 0 (startState n m)
+abbrev pub left : ℕ → Mem → List ℕ → List Change → Start → Mem
+left n m pages cs start = memAll (startMem m start) pages cs 0 (startState n m start)
 
 abbrev pub saidIf : Answer (Unit {0}) → SyncSaid → SyncSaid
 saidIf (given u) s = s
@@ -173,21 +175,21 @@ abbrev pub keptIf : {A : Type 0} → Answer (Unit {0}) → A → A → A
 keptIf (given u) before after = after
 keptIf (refused k) before after = before
 
-unfoldable pub syncSays : ℕ → Mem → List ℕ → List Change → ℕ → SyncSaid
-syncSays n m pages cs sync =
-    saidIf (beforeChanges n m pages (length cs)) (saidBy (came n m pages cs sync .came) (came n m pages cs sync .state) (left n m pages cs sync))
+unfoldable pub syncSays : ℕ → Mem → List ℕ → List Change → Start → SyncSaid
+syncSays n m pages cs start =
+    saidIf (beforeChanges n m pages (length cs)) (saidBy (came n m pages cs start .came) (came n m pages cs start .state) (left n m pages cs start))
 
 -- "Only tags, marks, cells and the log change"
-unfoldable pub syncMem : ℕ → Mem → List ℕ → List Change → ℕ → Mem
-syncMem n m pages cs sync =
-    let l : Mem = left n m pages cs sync in
+unfoldable pub syncMem : ℕ → Mem → List ℕ → List Change → Start → Mem
+syncMem n m pages cs start =
+    let l : Mem = left n m pages cs start in
     keptIf (beforeChanges n m pages (length cs)) m
-    (memOf (l .tags) (l .marks) (l .cells) (logAfter (came n m pages cs sync .came) (came n m pages cs sync .state) l))
+    (memOf (l .tags) (l .marks) (l .cells) (logAfter (came n m pages cs start .came) (came n m pages cs start .state) l))
 
-unfoldable pub syncWriter : ℕ → Mem → List ℕ → List Change → ℕ → Writer → Writer
-syncWriter n m pages cs sync w =
+unfoldable pub syncWriter : ℕ → Mem → List ℕ → List Change → Start → Writer → Writer
+syncWriter n m pages cs start w =
     keptIf (beforeChanges n m pages (length cs)) w
-    (writerAfter (came n m pages cs sync .came) (came n m pages cs sync .state) (left n m pages cs sync))
+    (writerAfter (came n m pages cs start .came) (came n m pages cs start .state) (left n m pages cs start))
 
 -- ---- what each part of a sync promises
 -- change j of a sync that goes on; one that was refused stays as it is, and leaves all
@@ -204,30 +206,30 @@ changeLeft m pages c j (stopped i k) = m
 abbrev pub ChangePromise : Mem → List ℕ → Change → ℕ → Run → Run → Mem → Type 0
 ChangePromise m pages c j before r after = (runSaid r ≡ changeGoing m pages c j (runSaid before)) × (after ≡ changeLeft m pages c j (runSaid before))
 
--- the start of a sync of so many changes: how it goes, the marks and the log after it; and the width of its number
+-- the start of a sync of so many changes: how it goes, the marks and the log after it; and the widths of what its log starts with
 abbrev pub startGoing : Answer (Unit {0}) → SyncState → Writer → Going
 startGoing (given u) st w = on st
 startGoing (refused k) st w = unbegun k w
 
 abbrev pub BeginPromise : SyncStart → Mem → List ℕ → ℕ → Run → Mem → Type 0
 BeginPromise s m pages count r after =
-    (runSaid r ≡ startGoing (beforeChanges (s .n) m pages count) (startState (s .n) m) (s .writer)) ×
-    ((after ≡ keptIf (beforeChanges (s .n) m pages count) m (startMem m (s .«sync_seqn»))) × (s .«sync_seqn» < 2 ^ 32))
+    (runSaid r ≡ startGoing (beforeChanges (s .n) m pages count) (startState (s .n) m (s .«log_start»)) (s .writer)) ×
+    ((after ≡ keptIf (beforeChanges (s .n) m pages count) m (startMem m (s .«log_start»))) × WideStart (s .«log_start»))
 
 -- the end of a sync, however it goes: the answer, the writer and the log after it
 abbrev pub EndPromise : Run → List ℕ → SyncAnswer → List ℕ → Type 0
 EndPromise g log r after =
     (syncedSaid (r .synced) ≡ endSaid (runSaid g) log) × ((r .writer ≡ endWriter (runSaid g) log) × (after ≡ endLog (runSaid g) log))
 
--- the widths that the types of what is lent give, where a sync came through: of every change, and of the sync number
-abbrev pub widthsBy : SyncSaid → List Change → ℕ → Type 0
-widthsBy (saidDone o len) cs sync = AllWide cs × (sync < 2 ^ 32)
-widthsBy (saidRefused k) cs sync = Unit {0}
-widthsBy (saidRefusedAt j k) cs sync = Unit {0}
+-- the widths that the types of what is lent give, where a sync came through: of every change, and of what its log starts with
+abbrev pub widthsBy : SyncSaid → List Change → Start → Type 0
+widthsBy (saidDone o len) cs start = AllWide cs × WideStart start
+widthsBy (saidRefused k) cs start = Unit {0}
+widthsBy (saidRefusedAt j k) cs start = Unit {0}
 
 -- what a sync promises: its answer, the writer and the memory after it; and these widths
 pub record SyncPromise (s : SyncStart) (m : Mem) (pages : List ℕ) (cs : List Change) (r : SyncAnswer) (after : Mem) : Type 0 where
-  pub says : syncedSaid (r .synced) ≡ syncSays (s .n) m pages cs (s .«sync_seqn»)
-  pub writer : r .writer ≡ syncWriter (s .n) m pages cs (s .«sync_seqn») (s .writer)
-  pub memory : after ≡ syncMem (s .n) m pages cs (s .«sync_seqn»)
-  pub widths : widthsBy (syncedSaid (r .synced)) cs (s .«sync_seqn»)
+  pub says : syncedSaid (r .synced) ≡ syncSays (s .n) m pages cs (s .«log_start»)
+  pub writer : r .writer ≡ syncWriter (s .n) m pages cs (s .«log_start») (s .writer)
+  pub memory : after ≡ syncMem (s .n) m pages cs (s .«log_start»)
+  pub widths : widthsBy (syncedSaid (r .synced)) cs (s .«log_start»)

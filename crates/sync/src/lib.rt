@@ -22,6 +22,7 @@ use meta_map::TOMBSTONE;
 use page_diff::Diff;
 use probe::Allocated;
 use probe::Limit;
+use wal::Start;
 use wal::Writer;
 
 // A cell that has no bucket yet.
@@ -78,11 +79,11 @@ pub struct StepAnswer {
     pub state: SyncState,
 }
 
-// What a sync begins with: the count of buckets, its number, and the writer that it hands back where it
-// is refused before it has begun.
+// What a sync begins with: the count of buckets; what its log starts with (number, edition, seed); and the
+// writer that it hands back where it is refused before it has begun.
 pub struct SyncStart {
     pub n: usize,
-    pub sync_seqn: u32,
+    pub log_start: Start,
     pub writer: Writer,
 }
 
@@ -253,19 +254,19 @@ fn look_ahead(tags: &[u8], cells: &[u64], log: &[u8], c: Change, st: SyncState) 
     match planned {
         Planned::Refused(why) => Outlook::Refused(why),
         Planned::Clears(b) => {
-            if wal_write::has_room(log.len(), w, wal::CLEAR_SIZE) {
+            if wal_write::has_room(log.len(), w, wal::CLEAR_BODY) {
                 return Outlook::Clears(b);
             }
             Outlook::Refused(Refusal::NoRoom)
         }
         Planned::Updates(b) => {
-            if wal_write::has_room(log.len(), w, wal::UPDATE_SIZE + 32 * page_diff::count(d)) {
+            if wal_write::has_room(log.len(), w, wal::UPDATE_BODY + 32 * page_diff::count(d)) {
                 return Outlook::Updates(b);
             }
             Outlook::Refused(Refusal::NoRoom)
         }
         Planned::Allocates => {
-            if wal_write::has_room(log.len(), w, wal::UPDATE_SIZE + 32 * page_diff::count(d)) {
+            if wal_write::has_room(log.len(), w, wal::UPDATE_BODY + 32 * page_diff::count(d)) {
                 let found = probe::find_bucket(tags, n, c.hash, limit);
                 match found {
                     Allocated::At(b) => Outlook::Takes(b),
@@ -375,7 +376,7 @@ pub fn step(
     if marks.len() != ht_file::tag_pages(n) {
         return refused_step(Refusal::LengthUnfit, st);
     }
-    let Writer::Open(_) = w else {
+    let Writer::Open(_, _) = w else {
         return refused_step(Refusal::WriterNotOpen, st);
     };
     let ahead = look_ahead(&tags[..], &cells[..], &log[..], c, st);
@@ -474,7 +475,8 @@ pub fn begin_sync(
     if marks.len() != ht_file::tag_pages(n) {
         return Run::Refused(Refusal::LengthUnfit, w);
     }
-    let begun = wal_write::begin(log, Writer::Fresh, start.sync_seqn);
+    let log_start = start.log_start;
+    let begun = wal_write::begin(log, Writer::Fresh, log_start);
     let outcome = begun.outcome;
     if let Outcome::Refused(why) = outcome {
         return Run::Refused(why, w);

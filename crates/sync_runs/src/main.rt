@@ -12,6 +12,8 @@ use sync::SyncStart;
 use sync::SyncState;
 use sync::Synced;
 use sync::Taken;
+use wal::Edition;
+use wal::Start;
 use wal::Writer;
 
 const N: usize = 4;
@@ -81,7 +83,7 @@ fn say_taken(r: Taken) {
 fn say_writer(w: Writer) {
     match w {
         Writer::Fresh => say(b"; fresh"),
-        Writer::Open(at) => say_number(b"; open ", at as u64),
+        Writer::Open(at, _) => say_number(b"; open ", at as u64),
         Writer::Finished(at) => say_number(b"; finished ", at as u64),
     }
 }
@@ -217,8 +219,8 @@ fn synced_by(
     sync::end_sync(log, came)
 }
 
-// Such a sync, and what it left.
-fn synced(
+// Such a sync, its log starting so, and what it left.
+fn synced_from(
     title: &[u8],
     tags: &mut [u8],
     marks: &mut [u8],
@@ -229,12 +231,13 @@ fn synced(
     second: Change,
     count: usize,
     n: usize,
+    log_start: Start,
 ) {
     let mut cells = [cell, 7];
     let start = SyncStart {
         n,
-        sync_seqn: SEQN,
-        writer: Writer::Open(77),
+        log_start,
+        writer: Writer::Open(77, Edition::One),
     };
     let r = synced_by(
         tags,
@@ -253,6 +256,34 @@ fn synced(
     say_synced(answer);
     say_writer(writer);
     say_memory(tags, marks, &cells, log);
+}
+
+// The same of edition one, with the number of all runs.
+fn synced(
+    title: &[u8],
+    tags: &mut [u8],
+    marks: &mut [u8],
+    log: &mut [u8],
+    pages: &[u8],
+    cell: u64,
+    first: Change,
+    second: Change,
+    count: usize,
+    n: usize,
+) {
+    synced_from(
+        title,
+        tags,
+        marks,
+        log,
+        pages,
+        cell,
+        first,
+        second,
+        count,
+        n,
+        wal::edition_one(SEQN),
+    );
 }
 
 // One change on a table with these two tags first.
@@ -276,6 +307,30 @@ fn one(title: &[u8], tag_0: u8, tag_1: u8, cell: u64, c: Change) {
         c,
         1,
         N,
+    );
+}
+
+// One fresh page, its log of edition two: the seed's bytes stand where edition one has its first record.
+fn edition_two() {
+    let mut tags = [0u8; 4096];
+    let mut marks = [WAS; 1];
+    let mut log = [WAS; 8192];
+    let mut page = [5u8; 4096];
+    page[0] = 50;
+    page[4056] = 51;
+    let c = fresh();
+    synced_from(
+        b"edition two",
+        &mut tags,
+        &mut marks,
+        &mut log,
+        &page,
+        UNSET,
+        c,
+        c,
+        1,
+        N,
+        wal::edition_two(SEQN, [40; 16]),
     );
 }
 
@@ -498,7 +553,7 @@ fn steps() {
     stepped(b"step, fresh writer", Writer::Fresh, fresh());
     stepped(
         b"step, occupied 0",
-        Writer::Open(5),
+        Writer::Open(5, Edition::One),
         change(0, CLEARED, sync::known(1)),
     );
 }
@@ -506,6 +561,7 @@ fn steps() {
 fn main() {
     no_changes();
     one(b"one fresh", 0, 0, UNSET, fresh());
+    edition_two();
     short_pages();
     many_marks();
     no_buckets();

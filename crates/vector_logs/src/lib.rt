@@ -4,6 +4,7 @@
 ghost use mathlib.Core.Path.{_≡_};
 ghost use lib.ListN.{length};
 use page_diff::Diff;
+use recover::Expected;
 use recover::Recovered;
 use recover::Stepped;
 use vector_memory::Count;
@@ -23,6 +24,7 @@ use vector_memory::said;
 use vector_memory::said6;
 use vector_memory::weighed;
 use vector_memory::word;
+use wal::Edition;
 use wal::Writer;
 
 // The first n of a slice, or all of a shorter one.
@@ -81,7 +83,7 @@ fn carried(d: Diff, held: usize, from: &[u8], to: &mut [u8]) -> Words {
 // ---- 40 to 43: a log is read
 
 fn reader_next(log: &[u8], at: usize) -> Words {
-    let e = wal_read::entry_at(log, at);
+    let e = wal_read::entry_at(log, at, wal_read::edition_of(log));
     let what = e.what;
     let d = e.diff;
     let next = e.next as u64;
@@ -95,7 +97,7 @@ fn reader_next(log: &[u8], at: usize) -> Words {
 
 // A word of an update's id (part 0), nodes (1) or elided children (2).
 fn update_part(log: &[u8], at: usize, which: u64, index: u64) -> Words {
-    let e = wal_read::entry_at(log, at);
+    let e = wal_read::entry_at(log, at, wal_read::edition_of(log));
     if which == 0 {
         let id = e.id;
         return one(word_of(&id, index));
@@ -138,7 +140,7 @@ fn on_log(w: In, log: &[u8]) -> Words {
 fn writer(kind: u64, at: u64) -> Writer {
     match kind {
         0 => Writer::Fresh,
-        1 => Writer::Open(at as usize),
+        1 => Writer::Open(at as usize, Edition::One),
         _ => Writer::Finished(at as usize),
     }
 }
@@ -147,7 +149,7 @@ fn writer(kind: u64, at: u64) -> Writer {
 fn with_writer(r: u64, w: Writer) -> Words {
     match w {
         Writer::Fresh => said(r, 0, 0),
-        Writer::Open(at) => said(r, 1, at as u64),
+        Writer::Open(at, _) => said(r, 1, at as u64),
         Writer::Finished(at) => said(r, 2, at as u64),
     }
 }
@@ -187,7 +189,7 @@ fn on_writer(w: In, log: &mut [u8], page: &[u8]) -> Words {
     let state = writer(w.a, w.b);
     let op = w.op;
     match op {
-        44 => of_written(wal_write::begin(log, state, low_four(w.d))),
+        44 => of_written(wal_write::begin(log, state, wal::edition_one(low_four(w.d)))),
         45 => of_written(wal_write::write_clear(log, state, w.d)),
         46 => page_update(w, log, page, state),
         47 => packed_update(w, log, page, state),
@@ -196,6 +198,12 @@ fn on_writer(w: In, log: &mut [u8], page: &[u8]) -> Words {
 }
 
 // ---- 58 and 59: replay, and its stops
+
+// The logs of the list are of edition one, which names no store: any seed will do.
+fn wanted(sync: u32) -> Expected {
+    let seed = [0u8; 16];
+    Expected { sync, seed }
+}
 
 fn of_recovered(r: Recovered) -> Words {
     match r {
@@ -245,7 +253,7 @@ fn equal(a: &[u8], b: &[u8]) -> bool {
 
 // Replays on the image, and compares it with the one expected.
 fn ends_in(image: &mut [u8], log: &[u8], hashes: &[u64], expected: &[u8]) -> bool {
-    let answer = recover::recover(image, N, log, SYNC, hashes);
+    let answer = recover::recover(image, N, log, wanted(SYNC), hashes);
     if let Recovered::Applied = answer {
         return equal(image, expected);
     }
@@ -304,7 +312,7 @@ fn stands(at: usize, used: usize, ended: bool) -> Standing {
 // Applies one entry to the image.
 fn entry(image: &mut [u8], log: &[u8], p: Standing, hashes: &[u64]) -> Standing {
     let hash = word(hashes, p.used);
-    match recover::apply_entry(image, N, log, p.at, hash) {
+    match recover::apply_entry(image, N, log, wal_read::edition_of(log), p.at, hash) {
         Stepped::Cleared(next) => stands(next, p.used, false),
         Stepped::Updated(next) => stands(next, std::num::wrapping_add_usize(p.used, 1), false),
         _ => stands(p.at, p.used, true),
@@ -318,7 +326,7 @@ fn walk(table: &[u8], log: &[u8], hashes: &[u64], expected: &[u8]) -> Count {
     mix(&mut before, table, table, 0);
     mix(&mut after, table, table, 0);
     let mut t = no_count();
-    let mut p = stands(wal::START_SIZE, 0, false);
+    let mut p = stands(wal_read::first_at(log), 0, false);
     let mut k = 0;
     while k < MOST_ENTRIES {
         p = entry(&mut after, log, p, hashes);
@@ -336,7 +344,7 @@ fn walk(table: &[u8], log: &[u8], hashes: &[u64], expected: &[u8]) -> Count {
 fn stopped(table: &[u8], log: &[u8], hashes: &[u64]) -> Words {
     let mut expected = [0u8; SIZE];
     mix(&mut expected, table, table, 0);
-    let r = of_recovered(recover::recover(&mut expected, N, log, SYNC, hashes));
+    let r = of_recovered(recover::recover(&mut expected, N, log, wanted(SYNC), hashes));
     let t = walk(table, log, hashes, &expected);
     said6(r.a, weighed(&expected), t.answers, t.differ, 0, 0)
 }
@@ -350,7 +358,13 @@ fn on_nodes(w: In, page: &mut [u8], b: &[u8]) -> Words {
 
 fn replayed(w: In, image: &mut [u8], log: &[u8], hashes: &[u64]) -> Words {
     if w.op == 58 {
-        return of_recovered(recover::recover(image, w.a as usize, log, low_four(w.d), hashes));
+        return of_recovered(recover::recover(
+            image,
+            w.a as usize,
+            log,
+            wanted(low_four(w.d)),
+            hashes,
+        ));
     }
     stopped(image, log, hashes)
 }

@@ -1,3 +1,4 @@
 pub mod Records
 pub mod RoundTrip
 pub mod Examples
+pub mod EditionOne

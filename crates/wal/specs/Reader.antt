@@ -1,5 +1,5 @@
--- 01, 'Reader': what reading a log at a position gives. Assumes nothing.
-use mathlib.Core.Bool.{cond}
+-- 01, 'Reader', and 02, W-207: what reading a log of an edition at a position gives. 01's reader is that of edition one. Assumes nothing.
+use mathlib.Core.Bool.{Bool, cond, _&&_}
 use mathlib.Core.List.{List, [], _∷_}
 use Prim.Native.Nat.{ℕ, zero, suc, _+_, _*_, _%_}
 use lib.Dec.{leb, eqb}
@@ -8,13 +8,31 @@ use Rattle.answers.specs.Answers.{Answer, given, refused}
 use Rattle.blocks.specs.Blocks.{le, block}
 use Rattle.page_diff.specs.Diff.{wordsOf, countOf, reserved}
 use Rattle.wal.specs.Log.{Entry, clear, update, markSize, startSize, clearBody, updateBody}
+use Rattle.wal.specs.declared.Edition.{Edition}
+use Rattle.wal.specs.declared.Edition.the-variants.{One, Two}
 
--- "Setting it reads the start and gives the sync number"; "The reader when set: 5, then 6 for an empty log, 7"
-unfoldable pub startOf : List ℕ → Answer ℕ
-startOf log =
+-- "The first byte tells: 1 or 0xB2"
+abbrev pub editionAt : List ℕ → Edition
+editionAt log = cond (eqb (getD log 0 0) 0xB2) Two One
+
+-- the mark of a tag stands at a position
+abbrev pub marksAt : Edition → List ℕ → ℕ → ℕ → Bool
+marksAt One log at tag = eqb (getD log at 0) tag
+marksAt Two log at tag = eqb (getD log at 0) 0xB2 && eqb (getD log (at + 1) 0) tag
+
+-- "Setting it reads the start and gives the sync number"; "The reader when set: 5, then 6 for an empty log, 7"; "a 0xB2 not followed by 1 is 7"
+unfoldable pub startIn : Edition → List ℕ → Answer ℕ
+startIn ed log =
     cond (eqb (length log % 4096) 0)
-    (cond (eqb (length log) 0) (refused 6) (cond (eqb (getD log 0 0) 1) (given (le (block 4 log markSize))) (refused 7)))
+    (cond (eqb (length log) 0) (refused 6) (cond (marksAt ed log 0 1) (given (le (block 4 log (markSize ed)))) (refused 7)))
     (refused 5)
+
+abbrev pub startOf : List ℕ → Answer ℕ
+startOf log = startIn (editionAt log) log
+
+-- the seed in the start of a log of edition two
+unfoldable pub seedOf : List ℕ → List ℕ
+seedOf log = block 16 log (markSize Two + 4)
 
 -- what stands at a position: an entry with the position after it, the end, or the number of a refusal
 pub data Next : Type 0 where
@@ -57,10 +75,23 @@ updateAt log p =
 abbrev pub byTag : ℕ → List ℕ → ℕ → Next
 byTag t log p = cond (eqb t 2) ended (cond (eqb t 3) (clearAt log p) (cond (eqb t 4) (updateAt log p) (stopped 8)))
 
--- the mark at a position, and what stands after it; "log ends .. before end": 6
-unfoldable pub nextAt : List ℕ → ℕ → Next
+-- by the tag of the mark at a position; "log ends .. before end": 6. In edition two "for a mark whose first byte isn't 0xB2 the number is 8,
+-- at the log's last byte too; a 0xB2 as the last byte there is 6"
+abbrev pub byMark : {A : Type 0} → Edition → List ℕ → ℕ → (ℕ → A) → (ℕ → A) → A
+byMark One log at tagged none = cond (leb (at + 1) (length log)) (tagged (getD log at 0)) (none 6)
+byMark Two log at tagged none =
+    cond (leb (at + 1) (length log))
+    (cond (eqb (getD log at 0) 0xB2) (cond (leb (at + 2) (length log)) (tagged (getD log (at + 1) 0)) (none 6)) (none 8))
+    (none 6)
+
+-- that tag, or the refusal
+abbrev pub tagAt : Edition → List ℕ → ℕ → Answer ℕ
+tagAt ed log at = byMark ed log at given refused
+
+-- the mark at a position, and what stands after it
+unfoldable pub nextAt : Edition → List ℕ → ℕ → Next
 unfolding clearAt updateAt
-nextAt log at = cond (leb (at + markSize) (length log)) (byTag (getD log at 0) log (at + markSize)) (stopped 6)
+nextAt ed log at = byMark ed log at (λ t. byTag t log (at + markSize ed)) stopped
 
 -- the whole of a log from a position on: its entries, where the reading stops, and at what: the end, or a refusal
 pub record Reading : Type 0 where
@@ -85,13 +116,16 @@ unfoldable pub readBy : (ℕ → Next) → ℕ → ℕ → Reading
 readBy step zero at = readOn (step at) at (λ p. stopAt p (refused 6))
 readBy step (suc f) at = readOn (step at) at (λ p. readBy step f p)
 
-abbrev pub readIn : ℕ → List ℕ → ℕ → Reading
-readIn f log at = readBy (nextAt log) f at
+abbrev pub readIn : Edition → ℕ → List ℕ → ℕ → Reading
+readIn ed f log at = readBy (nextAt ed log) f at
 
 -- the bytes of the log are such a bound
-abbrev pub readFrom : List ℕ → ℕ → Reading
-readFrom log at = readIn (length log) log at
+abbrev pub readFrom : Edition → List ℕ → ℕ → Reading
+readFrom ed log at = readIn ed (length log) log at
 
--- a whole log, after its start
+-- a whole log, after its start, read as of an edition, and as of its own
+abbrev pub readAfterStart : Edition → List ℕ → Reading
+readAfterStart ed log = readFrom ed log (startSize ed)
+
 abbrev pub readLog : List ℕ → Reading
-readLog log = readFrom log startSize
+readLog log = readAfterStart (editionAt log) log

@@ -8,7 +8,8 @@ use lib.ListN.{length, getD}
 use Rattle.answers.specs.Answers.{accepted, given}
 use Rattle.page_diff.specs.Diff.{countOf, reserved}
 use Rattle.wal.specs.Log.{Entry, clear, update, recordOf, startRecord, startSize, recordsOf, clearSize, updateSize, endRecord}
-use Rattle.wal.specs.Writer.{beginAnswer, beginLog, beginWriter, clearAnswer, updateAnswer, recordLog, recordWriter}
+use Rattle.wal.specs.Writer.{editionOf, beginAnswer, beginLog, beginWriter, clearAnswer, updateAnswer, recordLog, recordWriter}
+use Rattle.wal.specs.declared.Start.{Start}
 use Rattle.wal.specs.declared.Writer.{Writer}
 
 -- what the types of a change's id and diff say: their widths
@@ -40,17 +41,25 @@ abbrev pub WellFormed : Entry → Type 0
 WellFormed (clear b) = b < 2 ^ 64
 WellFormed (update id ws ns elided b) = Handed id ws ns elided b
 
+-- what the types of a start say: its widths
+pub record WideStart (start : Start) : Type 0 where
+  pub number : start .sync < 2 ^ 32
+  pub seed-long : length (start .seed) ≡ 16
+
 -- accepted calls, one after the other, on a slice that held log₀: the state and the log they leave, and the entries they wrote
-pub data Run (log₀ : List ℕ) (sync : ℕ) : Writer → List ℕ → List Entry → Type 0 where
-  begun : (w : Writer) → sync < 2 ^ 32 → accepted (beginAnswer log₀) ≡ true → Run log₀ sync (beginWriter log₀ w) (beginLog log₀ sync) []
-  with-clear : (w : Writer) (log : List ℕ) (es : List Entry) (b : ℕ) → Run log₀ sync w log es → b < 2 ^ 64 → accepted (clearAnswer log w) ≡ true
-      → Run log₀ sync (recordWriter (clearAnswer log w) w clearSize) (recordLog (clearAnswer log w) log w (recordOf (clear b))) (es ++ (clear b ∷ []))
+pub data Run (log₀ : List ℕ) (start : Start) : Writer → List ℕ → List Entry → Type 0 where
+  begun : (w : Writer) → WideStart start → accepted (beginAnswer log₀) ≡ true → Run log₀ start (beginWriter log₀ w (start .edition)) (beginLog log₀ start) []
+  with-clear : (w : Writer) (log : List ℕ) (es : List Entry) (b : ℕ) → Run log₀ start w log es → b < 2 ^ 64 → accepted (clearAnswer log w) ≡ true
+      → Run log₀ start (recordWriter (clearAnswer log w) w (clearSize (editionOf w))) (recordLog (clearAnswer log w) log w (recordOf (editionOf w) (clear b))) (es ++ (clear b ∷ []))
   with-update : (w : Writer) (log : List ℕ) (es : List Entry) (id ws : List ℕ) (ns : List (List ℕ)) (elided : List ℕ) (b : ℕ)
-      → Run log₀ sync w log es → Handed id ws ns elided b → accepted (updateAnswer log w ws (length ns)) ≡ true
-      → Run log₀ sync (recordWriter (updateAnswer log w ws (length ns)) w (updateSize (length ns)))
-      (recordLog (updateAnswer log w ws (length ns)) log w (recordOf (update id ws ns elided b)))
+      → Run log₀ start w log es → Handed id ws ns elided b → accepted (updateAnswer log w ws (length ns)) ≡ true
+      → Run log₀ start (recordWriter (updateAnswer log w ws (length ns)) w (updateSize (editionOf w) (length ns)))
+      (recordLog (updateAnswer log w ws (length ns)) log w (recordOf (editionOf w) (update id ws ns elided b)))
       (es ++ (update id ws ns elided b ∷ []))
 
--- the whole log of some entries: start, records, end, zeros
-abbrev pub logOf : ℕ → List Entry → List ℕ
-logOf sync es = startRecord sync ++ (recordsOf es ++ endRecord (startSize + length (recordsOf es)))
+-- where the end of the log of some entries stands, and the whole log: start, records, end, zeros
+abbrev pub endOf : Start → List Entry → ℕ
+endOf start es = startSize (start .edition) + length (recordsOf (start .edition) es)
+
+abbrev pub logOf : Start → List Entry → List ℕ
+logOf start es = startRecord start ++ (recordsOf (start .edition) es ++ endRecord (start .edition) (endOf start es))

@@ -13,7 +13,8 @@ use Rattle.answers.specs.Answers.{Answer, given, refused}
 use types.Run.{OneOf}
 use denote.Enum.Declared.{tagOf}
 use Rattle.blocks.specs.Blocks.{le, block, put}
-use Rattle.wal.specs.Reader.{Next, next, startOf, updateOf, nextAt}
+use Rattle.wal.specs.Log.{markSize}
+use Rattle.wal.specs.Reader.{Next, next, editionAt, startOf, updateOf, nextAt}
 use Rattle.wal_read.specs.declared.Head.{Head}
 use Rattle.wal_read.specs.declared.Head.the-variants as head
 use Rattle.wal_read.proofs.Head as HeadT
@@ -33,15 +34,15 @@ module _ (log : List ℕ) where
   unfolding firstShown
   first-none e = simp (le-leb (length log) 65536 (omega arith), eq-eqb (length log) 0 e)
 
-  pub first-start : length log ≤ 65536 → (length log ≡ 0 → ⊥) → firstShown log ≡ started (startOf log)
+  pub first-start : length log ≤ 65536 → (length log ≡ 0 → ⊥) → firstShown log ≡ started (editionAt log) (startOf log)
   unfolding firstShown
   first-start h n = simp (le-leb (length log) 65536 h, ne-eqb (length log) 0 n)
 
   pub shown-first : (at : ℕ) → at ≡ 0 → shownAt log at ≡ firstShown log
-  shown-first at e = ap (λ (b : Bool). cond b (firstShown log) (nextShown (nextAt log at) at)) (eq-eqb at 0 e)
+  shown-first at e = ap (λ (b : Bool). cond b (firstShown log) (nextShown (nextAt (editionAt log) log at) at)) (eq-eqb at 0 e)
 
-  pub shown-next : (at : ℕ) (n : Next) → (at ≡ 0 → ⊥) → nextAt log at ≡ n → shownAt log at ≡ nextShown n at
-  shown-next at n e h = ap (λ (b : Bool). cond b (firstShown log) (nextShown (nextAt log at) at)) (ne-eqb at 0 e) ∙ ap (λ (m : Next). nextShown m at) h
+  pub shown-next : (at : ℕ) (n : Next) → (at ≡ 0 → ⊥) → nextAt (editionAt log) log at ≡ n → shownAt log at ≡ nextShown n at
+  shown-next at n e h = ap (λ (b : Bool). cond b (firstShown log) (nextShown (nextAt (editionAt log) log at) at)) (ne-eqb at 0 e) ∙ ap (λ (m : Next). nextShown m at) h
 
 -- a buffer that is long enough is filled, a shorter one stays
 module _ (l : List ℕ) (s : Shown) where
@@ -69,11 +70,11 @@ pub with-room : (l m : List ℕ) (s : Shown) (a : Answer Said) → 80 ≤ length
 with-room l m s a h (x, y) = (x ∙ room-answer l s h, y ∙ room-after l s h)
 
 -- an update's line, by its head
-pub shown-update : (log : List ℕ) (at b c p : ℕ) → (at ≡ 0 → ⊥) → There log at b c p → shownAt log at ≡ more (decimal at ++ ascii " update " ++ decimal b ++ ascii " " ++ decimal c ++ ascii "\n") p
+pub shown-update : (log : List ℕ) (at b c p : ℕ) → (at ≡ 0 → ⊥) → There (editionAt log) log at b c p → shownAt log at ≡ more (decimal at ++ ascii " update " ++ decimal b ++ ascii " " ++ decimal c ++ ascii "\n") p
 unfolding updateOf
 shown-update log at b c p n t =
-    shown-next log at (next (updateOf log (at + 1)) p) n (t .here)
-    ∙ sym (ap (λ (k : ℕ). more (decimal at ++ ascii " update " ++ decimal (le (block 8 log (at + 1 + 56 + 32 * k))) ++ ascii " " ++ decimal k ++ ascii "\n") p) (t .count))
+    shown-next log at (next (updateOf log (at + markSize (editionAt log))) p) n (t .here)
+    ∙ sym (ap (λ (k : ℕ). more (decimal at ++ ascii " update " ++ decimal (le (block 8 log (at + markSize (editionAt log) + 56 + 32 * k))) ++ ascii " " ++ decimal k ++ ascii "\n") p) (t .count))
     ∙ sym (ap (λ (x : ℕ). more (decimal at ++ ascii " update " ++ decimal x ++ ascii " " ++ decimal c ++ ascii "\n") p) (t .bucket))
 
 -- a head that is no refusal, no clear and no update is the end

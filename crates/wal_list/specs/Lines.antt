@@ -1,4 +1,4 @@
--- 01, 'Reading off a log': the lines of `list`, byte for byte. Assumes nothing.
+-- 01, 'Reading off a log', and 02, W-207: the lines of `list`, byte for byte, of a log of either edition. Assumes nothing.
 use mathlib.Core.Bool.{cond}
 use mathlib.Core.List.{List, [], _∷_, _++_}
 use Prim.Native.Char.{code}
@@ -10,7 +10,8 @@ use lib.ListN.{length}
 use Rattle.answers.specs.Answers.{Answer, given, refused}
 use Rattle.page_diff.specs.Diff.{countOf}
 use Rattle.wal.specs.Log.{Entry, clear, update, startSize, clearSize, updateSize}
-use Rattle.wal.specs.Reader.{startOf, Reading, readLog}
+use Rattle.wal.specs.Reader.{editionAt, startOf, Reading, readLog}
+use Rattle.wal.specs.declared.Edition.{Edition}
 
 -- the bytes of a text
 abbrev pub ascii : String → List ℕ
@@ -41,25 +42,25 @@ endLine at = decimal at ++ ascii " end\n"
 abbrev pub refusedLine : ℕ → ℕ → List ℕ
 refusedLine at n = decimal at ++ ascii " refused " ++ decimal n ++ ascii "\n"
 
--- the lines of entries that stand one after the other from `at` on
-abbrev pub sizeOf : Entry → ℕ
-sizeOf (clear b) = clearSize
-sizeOf (update id ws ns elided b) = updateSize (countOf ws)
+-- the lines of entries that stand one after the other from `at` on: "`list` (its lines unchanged)", at the offsets of the edition
+abbrev pub sizeOf : Edition → Entry → ℕ
+sizeOf ed (clear b) = clearSize ed
+sizeOf ed (update id ws ns elided b) = updateSize ed (countOf ws)
 
-unfoldable pub entryLines : ℕ → List Entry → List ℕ
-entryLines at [] = []
-entryLines at (e ∷ es) = entryLine at e ++ entryLines (at + sizeOf e) es
+unfoldable pub entryLines : Edition → ℕ → List Entry → List ℕ
+entryLines ed at [] = []
+entryLines ed at (e ∷ es) = entryLine at e ++ entryLines ed (at + sizeOf ed e) es
 
 -- the line at which the reading stops
 abbrev pub stopLine : ℕ → Answer (Unit {0}) → List ℕ
 stopLine at (given a) = endLine at
 stopLine at (refused n) = refusedLine at n
 
-abbrev pub readingLines : ℕ → Reading → List ℕ
-readingLines at r = entryLines at (r .entries) ++ stopLine (r .at) (r .stop)
+abbrev pub readingLines : Edition → ℕ → Reading → List ℕ
+readingLines ed at r = entryLines ed at (r .entries) ++ stopLine (r .at) (r .stop)
 
 abbrev pub startedLines : Answer ℕ → List ℕ → List ℕ
-startedLines (given sync) log = startLine sync ++ readingLines startSize (readLog log)
+startedLines (given sync) log = startLine sync ++ readingLines (editionAt log) (startSize (editionAt log)) (readLog log)
 startedLines (refused n) log = refusedLine 0 n
 
 -- "a log of at most 65,536 bytes on standard input (longer: `0 refused 2`; none: `empty`)"

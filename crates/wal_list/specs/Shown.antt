@@ -1,4 +1,4 @@
--- 01, 'Reading off a log': one line of `list` at a time, and how it goes on. Assumes nothing.
+-- 01, 'Reading off a log', and 02, W-207: one line of `list` at a time, and how it goes on. Assumes nothing.
 use mathlib.Core.Bool.{cond}
 use mathlib.Core.List.{List}
 use Prim.Native.Nat.{ℕ, _+_, _*_}
@@ -8,7 +8,8 @@ use Rattle.answers.specs.Answers.{Answer, given, refused}
 use Rattle.answers.specs.Refusals.{numberOf}
 use Rattle.blocks.specs.Blocks.{put}
 use Rattle.wal.specs.Log.{startSize}
-use Rattle.wal.specs.Reader.{Next, next, ended, stopped, startOf, nextAt}
+use Rattle.wal.specs.Reader.{Next, next, ended, stopped, editionAt, startOf, nextAt}
+use Rattle.wal.specs.declared.Edition.{Edition}
 use Rattle.wal_list.specs.Lines.{ascii, startLine, entryLine, endLine, refusedLine, most, linesOf}
 use Rattle.wal_list.specs.declared.Line.{Line}
 use Rattle.wal_list.specs.declared.Line.the-variants as line
@@ -19,12 +20,12 @@ pub data Shown : Type 0 where
   last : List ℕ → Shown
 
 -- the first line
-abbrev pub started : Answer ℕ → Shown
-started (given sync) = more (startLine sync) startSize
-started (refused n) = last (refusedLine 0 n)
+abbrev pub started : Edition → Answer ℕ → Shown
+started ed (given sync) = more (startLine sync) (startSize ed)
+started ed (refused n) = last (refusedLine 0 n)
 
 unfoldable pub firstShown : List ℕ → Shown
-firstShown log = cond (leb (length log) most) (cond (eqb (length log) 0) (last (ascii "empty\n")) (started (startOf log))) (last (refusedLine 0 2))
+firstShown log = cond (leb (length log) most) (cond (eqb (length log) 0) (last (ascii "empty\n")) (started (editionAt log) (startOf log))) (last (refusedLine 0 2))
 
 -- a later line: "A refusal prints the offset of the unreadable record, `refused`, number, and stops"
 abbrev pub nextShown : Next → ℕ → Shown
@@ -32,9 +33,9 @@ nextShown (next e p) at = more (entryLine at e) p
 nextShown ended at = last (endLine at)
 nextShown (stopped n) at = last (refusedLine at n)
 
--- the line of the record at a position; the start is at 0
+-- the line of the record at a position, by the edition that the first byte tells; the start is at 0
 abbrev pub shownAt : List ℕ → ℕ → Shown
-shownAt log at = cond (eqb at 0) (firstShown log) (nextShown (nextAt log at) at)
+shownAt log at = cond (eqb at 0) (firstShown log) (nextShown (nextAt (editionAt log) log at) at)
 
 abbrev pub textOf : Shown → List ℕ
 textOf (more t p) = t

@@ -1,4 +1,5 @@
-// Reading off a log: the lines of the program `list`. `line_at` makes one line, `lines_into` all of them.
+// Reading off a log of either edition: the lines of the program `list`. `line_at` makes one line, `lines_into` all of
+// them.
 ghost use mathlib.Core.Path.{_≡_};
 ghost use mathlib.Core.List.{_++_};
 ghost use Prim.Native.Nat.{_+_, _≤_};
@@ -121,7 +122,7 @@ fn first_line(log: &[u8], line: &mut [u8]) -> Line
     let len = put_line(line, 0, b" start ", sync);
     Line::More {
         len,
-        next: wal::START_SIZE,
+        next: wal_read::first_at(log),
     }
 }
 
@@ -136,7 +137,7 @@ pub fn line_at(log: &[u8], at: usize, line: &mut [u8]) -> Line
     if at == 0 {
         return first_line(log, line);
     }
-    let head = wal_read::head_at(log, at);
+    let head = wal_read::head_at(log, at, wal_read::edition_of(log));
     if let Head::Refused(why) = head {
         let len = put_line(line, at, b" refused ", answers::number_of(why) as u64);
         return Line::Last { len };

@@ -11,8 +11,9 @@ use Rattle.blocks.specs.Blocks.{le, block}
 use Rattle.page_diff.specs.Diff.{countOf, readWords}
 use Rattle.page_diff.specs.Pack.{packedBy}
 use Rattle.page_diff.specs.declared.Packed.{Packed}
-use Rattle.wal.specs.Log.{clear}
+use Rattle.wal.specs.Log.{clear, markSize}
 use Rattle.wal.specs.Reader.{Next, next, ended, stopped, nodesFrom, diffAt, updateOf, nextAt}
+use Rattle.wal.specs.declared.Edition.{Edition}
 use Rattle.wal_read.specs.Head.{headSaid}
 use Rattle.wal_read.specs.Entry.{updates, whatSaid, rows, Taken}
 use Rattle.wal_read.specs.InnerEntry.{Bare}
@@ -48,20 +49,26 @@ module _ (at : ℕ) (e : WalEntry) where
       (record { what-is = ap whatSaid (k .what-is); id-is = k .id-is; diff-is = k .diff-is; packed-is = bare-packed (e .packed) (k .packed-is); elided-is = k .elided-is; next-is = k .next-is })
 
 -- ---- an update, field by field
-module _ (log : List ℕ) (at b c p : ℕ) (e : WalEntry) (t : There log at b c p) where
-  pub update-taken : e .what ≡ what.Update b → e .id ≡ block 32 log (at + 1) → e .diff .words ≡ readWords (block 16 log (at + 1 + 32)) → e .packed ≡ packedBy (rows (nodesFrom log (at + 1 + 48) c)) c
-      → e .elided ≡ block 8 log (at + 1 + 48 + 32 * c) → e .next ≡ p → Taken (nextAt log at) at e
+module _ (ed : Edition) (log : List ℕ) (at b c p : ℕ) (e : WalEntry) (t : There ed log at b c p) where
+  abbrev body : ℕ
+  body = at + markSize ed
+
+  -- the fields as they are read m bytes after the mark's first
+  pub update-taken : (m : ℕ) → m ≡ markSize ed → e .what ≡ what.Update b → e .id ≡ block 32 log (at + m) → e .diff .words ≡ readWords (block 16 log (at + m + 32)) → e .packed ≡ packedBy (rows (nodesFrom log (at + m + 48) c)) c
+      → e .elided ≡ block 8 log (at + m + 48 + 32 * c) → e .next ≡ p → Taken (nextAt ed log at) at e
   unfolding updateOf
-  update-taken w i d k l n =
-      let same : c ≡ countOf (diffAt log (at + 1)) = t .count in
-      let many : length (nodesFrom log (at + 1 + 48) c) ≡ c = nodes-length log (at + 1 + 48) c in
+  update-taken m same-mark w i d k l n =
+      let same : c ≡ countOf (diffAt log body) = t .count in
+      let many : length (nodesFrom log (body + 48) c) ≡ c = nodes-length log (body + 48) c in
       subst (λ (m : Next). Taken m at e) (sym (t .here))
       (record {
-        what-is = ap whatSaid w ∙ ap updates (t .bucket ∙ ap (λ (j : ℕ). le (block 8 log (at + 1 + 56 + 32 * j))) same);
-        id-is = i;
-        diff-is = d ∙ read-words (block 16 log (at + 1 + 32)) (t .plain);
-        packed-is = k ∙ ap (λ (j : ℕ). packedBy (rows (nodesFrom log (at + 1 + 48) c)) j) (sym many) ∙ ap (λ (j : ℕ). packedBy (rows (nodesFrom log (at + 1 + 48) j)) (length (nodesFrom log (at + 1 + 48) j))) same;
-        elided-is = l ∙ ap (λ (j : ℕ). block 8 log (at + 1 + 48 + 32 * j)) same;
+        what-is = ap whatSaid w ∙ ap updates (t .bucket ∙ ap (λ (j : ℕ). le (block 8 log (body + 56 + 32 * j))) same);
+        id-is = i ∙ ap (λ (j : ℕ). block 32 log (at + j)) same-mark;
+        diff-is = d ∙ ap (λ (j : ℕ). readWords (block 16 log (at + j + 32))) same-mark ∙ read-words (block 16 log (body + 32)) (t .plain);
+        packed-is =
+            k ∙ ap (λ (j : ℕ). packedBy (rows (nodesFrom log (at + j + 48) c)) c) same-mark
+            ∙ ap (λ (j : ℕ). packedBy (rows (nodesFrom log (body + 48) c)) j) (sym many) ∙ ap (λ (j : ℕ). packedBy (rows (nodesFrom log (body + 48) j)) (length (nodesFrom log (body + 48) j))) same;
+        elided-is = l ∙ ap (λ (j : ℕ). block 8 log (at + j + 48 + 32 * c)) same-mark ∙ ap (λ (j : ℕ). block 8 log (body + 48 + 32 * j)) same;
         next-is = n;
       })
 

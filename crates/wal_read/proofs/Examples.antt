@@ -12,7 +12,8 @@ use Rattle.page_diff.specs.Pack.{packedBy}
 use Rattle.page_diff.specs.declared.Packed.{Packed}
 use Rattle.wal.specs.Log.{clear}
 use Rattle.wal.specs.Reader.{Next, next, stopped, nextAt}
-use Rattle.wal.proofs.Examples.{log, toDiff}
+use Rattle.wal.specs.declared.Edition.the-variants.{One, Two}
+use Rattle.wal.proofs.Examples.{log, log-two, toDiff}
 use Rattle.wal_read.specs.Head.{aClear, anUpdate, theEnd, aRefusal, headOf, headSaid}
 use Rattle.wal_read.specs.Entry.{clears, updates, ends, refuses, whatOf, whatSaid, idOf, diffOf, elidedOf, rows, packedOf, nextOf, Taken}
 use Rattle.wal_read.specs.Set.{givesAt}
@@ -23,7 +24,7 @@ use Rattle.wal_read.specs.declared.WalEntry.{WalEntry}
 -- the clear at 5, the update at 14, the end at 143, a start where an entry should be; nothing left; a clear and an
 -- update cut short, reserved bits
 abbrev nexts : List Next
-nexts = map (nextAt log) (5 ∷ 14 ∷ 143 ∷ 0 ∷ 4096 ∷ []) ++ map (λ l. nextAt l 0) ((3 ∷ replicate 7 0) ∷ take 48 (toDiff 0x40) ∷ toDiff 0x40 ∷ toDiff 0x80 ∷ toDiff 0x20 ∷ [])
+nexts = map (nextAt One log) (5 ∷ 14 ∷ 143 ∷ 0 ∷ 4096 ∷ []) ++ map (λ l. nextAt One l 0) ((3 ∷ replicate 7 0) ∷ take 48 (toDiff 0x40) ∷ toDiff 0x40 ∷ toDiff 0x80 ∷ toDiff 0x20 ∷ [])
 
 pub heads : map headOf nexts ≡ aClear 3 14 ∷ anUpdate 9 2 143 ∷ theEnd ∷ aRefusal 8 ∷ aRefusal 6 ∷ aRefusal 6 ∷ aRefusal 6 ∷ aRefusal 4 ∷ aRefusal 4 ∷ aRefusal 6 ∷ []
 unfolding nextAt block marked slotsBelow
@@ -55,12 +56,12 @@ fields = (refl, refl, refl)
 abbrev answered : WalEntry
 answered = record { what = what.Update 9; id = replicate 32 1; diff = record { words = 1 ∷ (2 ^ 61) ∷ [] }; packed = twoNodes; elided = replicate 8 4; next = 143 }
 
-pub taken : Taken (nextAt log 14) 14 answered
+pub taken : Taken (nextAt One log 14) 14 answered
 unfolding nextAt block marked slotsBelow rows
 taken = record { what-is = refl; id-is = refl; diff-is = refl; packed-is = refl; elided-is = refl; next-is = refl }
 
 -- what a reader gives, by what its start answered: the entry, or the start's refusal
-pub given-at : givesAt (given 7) log 5 ∷ givesAt (refused 7) log 5 ∷ [] ≡ next (clear 3) 14 ∷ stopped 7 ∷ []
+pub given-at : givesAt (given 7) log 5 ∷ givesAt (given 7) log-two 22 ∷ givesAt (refused 7) log 5 ∷ [] ≡ next (clear 3) 14 ∷ next (clear 3) 32 ∷ stopped 7 ∷ []
 unfolding nextAt block
 given-at = refl
 
@@ -68,3 +69,9 @@ given-at = refl
 pub said : (map headSaid (head.Clear 3 14 ∷ head.Update 9 2 143 ∷ head.End ∷ head.Refused TagUnknown ∷ []) ≡ aClear 3 14 ∷ anUpdate 9 2 143 ∷ theEnd ∷ aRefusal 8 ∷ [])
     × (map whatSaid (what.Clear 3 ∷ what.Update 9 ∷ what.End ∷ what.Refused LogCut ∷ []) ≡ clears 3 ∷ updates 9 ∷ ends ∷ refuses 6 ∷ [])
 said = (refl, refl)
+
+-- of a log of edition two: the clear at 22, the end at 32; a start later, a bare tag and 0xB2 with no known tag are 8; 0xB2 as the last byte is 6
+pub heads-two : map (λ p. headOf (nextAt Two log-two p)) (22 ∷ 32 ∷ 0 ∷ 23 ∷ []) ∷ map (λ l. headOf (nextAt Two l 0)) ((0xB2 ∷ 9 ∷ []) ∷ (0xB2 ∷ []) ∷ (4 ∷ []) ∷ []) ∷ []
+    ≡ (aClear 3 32 ∷ theEnd ∷ aRefusal 8 ∷ aRefusal 8 ∷ []) ∷ (aRefusal 8 ∷ aRefusal 6 ∷ aRefusal 8 ∷ []) ∷ []
+unfolding nextAt block marked slotsBelow
+heads-two = refl

@@ -2,99 +2,113 @@
 use mathlib.Core.Path.{_≡_, refl, sym, ap, _∙_, subst}
 use mathlib.Core.Bool.{Bool, true, false}
 use mathlib.Core.List.{List}
-use Prim.Native.Nat.{ℕ, zero, suc, _+_, _*_, _≤_, _<_}
+use Prim.Native.Nat.{ℕ, zero, suc, _+_, _*_, _≤_}
 use native.Mathlib.Nat.{lt-of-not-le}
 use native.Mathlib.Decide.{decLe}
 use native.Mathlib.Omega.{arith}
 use lib.Dec.{eqb}
-use lib.ListN.{length, getD}
+use lib.ListN.{length}
 use borrow.Author.Tests.{eqb-true, eqb-false}
-use Rattle.answers.specs.Answers.{given, refused}
+use Rattle.answers.specs.Answers.{Answer, given, refused}
 use Rattle.blocks.specs.Blocks.{le, block}
 use Rattle.page_diff.specs.Diff.{countOf, reserved}
 use Rattle.page_diff.proofs.Walk.{plain-count}
-use Rattle.wal.specs.Log.{Entry, clear, update}
-use Rattle.wal.specs.Reader.{Next, next, ended, stopped, nodesFrom, diffAt, updateOf, nextAt, Reading, stopAt, andThen, readOn, readIn, readBy, readFrom}
+use Rattle.wal.specs.Log.{Entry, clear, update, markSize, updateBody, clearSize, updateSize}
+use Rattle.wal.specs.Reader.{Next, next, ended, stopped, nodesFrom, diffAt, updateOf, byTag, tagAt, nextAt, Reading, stopAt, andThen, readOn, readIn, readBy, readFrom}
+use Rattle.wal.specs.declared.Edition.{Edition}
+use Rattle.wal.proofs.Records.{mark-some}
 use Rattle.wal_read.specs.Head.{aClear, anUpdate, theEnd, aRefusal, headOf}
-use Rattle.wal_read.proofs.NextLaws.{next-past, next-end, next-unknown, next-clear-cut, next-clear, next-diff-cut, next-reserved, next-update-cut, next-update}
+use Rattle.wal_read.proofs.NextLaws.{mark-within, by-unknown, by-clear-cut, by-clear, by-diff-cut, by-reserved, by-update-cut, by-update, next-unmarked, next-past, next-tagged}
 use Rattle.wal_read.proofs.Nodes.{nodes-length}
 
 -- ---- what can stand at a position
-pub data Stands (log : List ℕ) (at : ℕ) : Next → Type 0 where
-  a-clear : at + 1 + 8 ≤ length log → Stands log at (next (clear (le (block 8 log (at + 1)))) (at + 1 + 8))
-  an-update : reserved (diffAt log (at + 1)) ≡ false → at + 1 + (64 + 32 * countOf (diffAt log (at + 1))) ≤ length log → Stands log at (next (updateOf log (at + 1)) (at + 1 + (64 + 32 * countOf (diffAt log (at + 1)))))
-  an-end : at < length log → Stands log at ended
-  a-stop : (n : ℕ) → Stands log at (stopped n)
+pub data Stands (ed : Edition) (log : List ℕ) (at : ℕ) : Next → Type 0 where
+  a-clear : at + markSize ed + 8 ≤ length log → Stands ed log at (next (clear (le (block 8 log (at + markSize ed)))) (at + markSize ed + 8))
+  an-update : reserved (diffAt log (at + markSize ed)) ≡ false → at + markSize ed + updateBody (countOf (diffAt log (at + markSize ed))) ≤ length log → Stands ed log at (next (updateOf log (at + markSize ed)) (at + markSize ed + updateBody (countOf (diffAt log (at + markSize ed)))))
+  an-end : at + markSize ed ≤ length log → Stands ed log at ended
+  a-stop : (n : ℕ) → Stands ed log at (stopped n)
 
-module _ (log : List ℕ) (at : ℕ) where
-  stop : (n : ℕ) → nextAt log at ≡ stopped n → Stands log at (nextAt log at)
-  stop n e = subst (Stands log at) (sym e) (a-stop n)
+module _ (ed : Edition) (log : List ℕ) (at : ℕ) where
+  stop : {m : Next} (n : ℕ) → m ≡ stopped n → Stands ed log at m
+  stop n e = subst (Stands ed log at) (sym e) (a-stop n)
 
-  update-stands : at < length log → getD log at 0 ≡ 4 → Stands log at (nextAt log at)
-  update-stands h t = go (decLe (at + 1 + 48) (length log)) (reserved (diffAt log (at + 1))) refl (decLe (at + 1 + (64 + 32 * countOf (diffAt log (at + 1)))) (length log))
+  abbrev body : ℕ
+  body = at + markSize ed
+
+  update-stands : Stands ed log at (byTag 4 log (at + markSize ed))
+  update-stands = go (decLe (body + 48) (length log)) (reserved (diffAt log body)) refl (decLe (body + updateBody (countOf (diffAt log body))) (length log))
     where
-      go : Dec (at + 1 + 48 ≤ length log) → (b : Bool) → reserved (diffAt log (at + 1)) ≡ b → Dec (at + 1 + (64 + 32 * countOf (diffAt log (at + 1))) ≤ length log) → Stands log at (nextAt log at)
-      go (no p) b r q = stop 6 (next-diff-cut log at h t (lt-of-not-le p))
-      go (yes p) true r q = stop 4 (next-reserved log at h t p r)
-      go (yes p) false r (no q) = stop 6 (next-update-cut log at h t p r (lt-of-not-le q))
-      go (yes p) false r (yes q) = subst (Stands log at) (sym (next-update log at h t r q)) (an-update r q)
+      go : Dec (body + 48 ≤ length log) → (b : Bool) → reserved (diffAt log body) ≡ b → Dec (body + updateBody (countOf (diffAt log body)) ≤ length log) → Stands ed log at (byTag 4 log body)
+      go (no p) b r q = stop 6 (by-diff-cut log body (lt-of-not-le p))
+      go (yes p) true r q = stop 4 (by-reserved log body p r)
+      go (yes p) false r (no q) = stop 6 (by-update-cut log body p r (lt-of-not-le q))
+      go (yes p) false r (yes q) = subst (Stands ed log at) (sym (by-update log body r q)) (an-update r q)
 
-  pub stands : Stands log at (nextAt log at)
-  stands = go (decLe (length log) at) (eqb (getD log at 0) 2) (eqb (getD log at 0) 3) (eqb (getD log at 0) 4) refl refl refl (decLe (at + 1 + 8) (length log))
+  tag-stands : (t : ℕ) → at + markSize ed ≤ length log → Stands ed log at (byTag t log (at + markSize ed))
+  tag-stands t h = go (eqb t 2) (eqb t 3) (eqb t 4) refl refl refl (decLe (body + 8) (length log))
     where
-      go : Dec (length log ≤ at) → (a b c : Bool) → eqb (getD log at 0) 2 ≡ a → eqb (getD log at 0) 3 ≡ b → eqb (getD log at 0) 4 ≡ c → Dec (at + 1 + 8 ≤ length log) → Stands log at (nextAt log at)
-      go (yes p) a b c x y z q = stop 6 (next-past log at p)
-      go (no p) true b c x y z q = let h : at < length log = lt-of-not-le p in subst (Stands log at) (sym (next-end log at h (eqb-true (getD log at 0) 2 x))) (an-end h)
-      go (no p) false true c x y z (yes q) = subst (Stands log at) (sym (next-clear log at (lt-of-not-le p) (eqb-true (getD log at 0) 3 y) q)) (a-clear q)
-      go (no p) false true c x y z (no q) = stop 6 (next-clear-cut log at (lt-of-not-le p) (eqb-true (getD log at 0) 3 y) (lt-of-not-le q))
-      go (no p) false false true x y z q = update-stands (lt-of-not-le p) (eqb-true (getD log at 0) 4 z)
-      go (no p) false false false x y z q = stop 8 (next-unknown log at (lt-of-not-le p) (eqb-false (getD log at 0) 2 x) (eqb-false (getD log at 0) 3 y) (eqb-false (getD log at 0) 4 z))
+      of : (k : ℕ) → eqb t k ≡ true → Stands ed log at (byTag k log body) → Stands ed log at (byTag t log body)
+      of k e = subst (λ (j : ℕ). Stands ed log at (byTag j log body)) (sym (eqb-true t k e))
+
+      go : (a b c : Bool) → eqb t 2 ≡ a → eqb t 3 ≡ b → eqb t 4 ≡ c → Dec (body + 8 ≤ length log) → Stands ed log at (byTag t log body)
+      go true b c x y z q = of 2 x (an-end h)
+      go false true c x y z (yes q) = of 3 y (subst (Stands ed log at) (sym (by-clear log body q)) (a-clear q))
+      go false true c x y z (no q) = of 3 y (stop 6 (by-clear-cut log body (lt-of-not-le q)))
+      go false false true x y z q = of 4 z update-stands
+      go false false false x y z q = stop 8 (by-unknown log body t (eqb-false t 2 x) (eqb-false t 3 y) (eqb-false t 4 z))
+
+  pub stands : Stands ed log at (nextAt ed log at)
+  stands = go (tagAt ed log at) refl
+    where
+      go : (a : Answer ℕ) → tagAt ed log at ≡ a → Stands ed log at (nextAt ed log at)
+      go (given t) e = subst (Stands ed log at) (sym (next-tagged ed log at t e)) (tag-stands t (mark-within ed log at t e))
+      go (refused n) e = stop n (next-unmarked ed log at n e)
 
 -- ---- an entry moves the position on by its size, and stays within the log
 pub record Moved (log : List ℕ) (at p : ℕ) : Type 0 where
   pub on : at + 9 ≤ p
   pub within : p ≤ length log
 
-pub moves : (log : List ℕ) (at : ℕ) (e : Entry) (p : ℕ) → nextAt log at ≡ next e p → Moved log at p
-moves log at e p h = go (nextAt log at) (stands log at) h
+pub moves : (ed : Edition) (log : List ℕ) (at : ℕ) (e : Entry) (p : ℕ) → nextAt ed log at ≡ next e p → Moved log at p
+moves ed log at e p h = go (nextAt ed log at) (stands ed log at) h
   where
-    go : (n : Next) → Stands log at n → n ≡ next e p → Moved log at p
-    go n (a-clear l) h = let q : p ≡ at + 1 + 8 = cc in record { on = omega arith; within = omega arith }
-    go n (an-update r l) h = let q : p ≡ at + 1 + (64 + 32 * countOf (diffAt log (at + 1))) = cc in record { on = omega arith; within = omega arith }
+    go : (n : Next) → Stands ed log at n → n ≡ next e p → Moved log at p
+    go n (a-clear l) h = let q : p ≡ at + markSize ed + 8 = cc in record { on = omega (arith, mark-some ed); within = omega arith }
+    go n (an-update r l) h = let q : p ≡ at + markSize ed + updateBody (countOf (diffAt log (at + markSize ed))) = cc in record { on = omega (arith, mark-some ed); within = omega arith }
     go n (an-end l) h = let z : _≡_ {A = ℕ} 0 1 = cc in absurd (omega arith)
     go n (a-stop k) h = let z : _≡_ {A = ℕ} 0 1 = cc in absurd (omega arith)
 
-pub clear-moves : (log : List ℕ) (at b p : ℕ) → nextAt log at ≡ next (clear b) p → p ≡ at + 9
+pub clear-moves : (ed : Edition) (log : List ℕ) (at b p : ℕ) → nextAt ed log at ≡ next (clear b) p → p ≡ at + clearSize ed
 unfolding updateOf
-clear-moves log at b p h = go (nextAt log at) (stands log at) h
+clear-moves ed log at b p h = go (nextAt ed log at) (stands ed log at) h
   where
-    go : (n : Next) → Stands log at n → n ≡ next (clear b) p → p ≡ at + 9
-    go n (a-clear l) h = let q : p ≡ at + 1 + 8 = cc in omega arith
+    go : (n : Next) → Stands ed log at n → n ≡ next (clear b) p → p ≡ at + clearSize ed
+    go n (a-clear l) h = let q : p ≡ at + markSize ed + 8 = cc in omega arith
     go n (an-update r l) h = let z : _≡_ {A = ℕ} 0 1 = cc in absurd (omega arith)
     go n (an-end l) h = let z : _≡_ {A = ℕ} 0 1 = cc in absurd (omega arith)
     go n (a-stop k) h = let z : _≡_ {A = ℕ} 0 1 = cc in absurd (omega arith)
 
 -- of an update: as many nodes as its diff has marks, none of them reserved, and the size by that
-pub record Sized (log : List ℕ) (at : ℕ) (ws : List ℕ) (ns : List (List ℕ)) (p : ℕ) : Type 0 where
+pub record Sized (ed : Edition) (log : List ℕ) (at : ℕ) (ws : List ℕ) (ns : List (List ℕ)) (p : ℕ) : Type 0 where
   pub plain : reserved ws ≡ false
   pub few : countOf ws ≤ 126
   pub nodes : length ns ≡ countOf ws
-  pub after : p ≡ at + (65 + 32 * countOf ws)
+  pub after : p ≡ at + updateSize ed (countOf ws)
 
-pub update-moves : (log : List ℕ) (at : ℕ) (id ws : List ℕ) (ns : List (List ℕ)) (elided : List ℕ) (b p : ℕ) → nextAt log at ≡ next (update id ws ns elided b) p → Sized log at ws ns p
+pub update-moves : (ed : Edition) (log : List ℕ) (at : ℕ) (id ws : List ℕ) (ns : List (List ℕ)) (elided : List ℕ) (b p : ℕ) → nextAt ed log at ≡ next (update id ws ns elided b) p → Sized ed log at ws ns p
 unfolding updateOf
-update-moves log at id ws ns elided b p h = go (nextAt log at) (stands log at) h
+update-moves ed log at id ws ns elided b p h = go (nextAt ed log at) (stands ed log at) h
   where
-    go : (n : Next) → Stands log at n → n ≡ next (update id ws ns elided b) p → Sized log at ws ns p
+    go : (n : Next) → Stands ed log at n → n ≡ next (update id ws ns elided b) p → Sized ed log at ws ns p
     go n (a-clear l) h = let z : _≡_ {A = ℕ} 0 1 = cc in absurd (omega arith)
     go n (an-update r l) h =
-        let e : ws ≡ diffAt log (at + 1) = cc in
-        let f : ns ≡ nodesFrom log (at + 1 + 48) (countOf (diffAt log (at + 1))) = cc in
-        let g : p ≡ at + 1 + (64 + 32 * countOf (diffAt log (at + 1))) = cc in
+        let e : ws ≡ diffAt log (at + markSize ed) = cc in
+        let f : ns ≡ nodesFrom log (at + markSize ed + 48) (countOf (diffAt log (at + markSize ed))) = cc in
+        let g : p ≡ at + markSize ed + updateBody (countOf (diffAt log (at + markSize ed))) = cc in
         record {
           plain = ap reserved e ∙ r;
-          few = omega (arith, ap countOf e, plain-count (diffAt log (at + 1)) r);
-          nodes = ap length f ∙ nodes-length log (at + 1 + 48) (countOf (diffAt log (at + 1))) ∙ sym (ap countOf e);
+          few = omega (arith, ap countOf e, plain-count (diffAt log (at + markSize ed)) r);
+          nodes = ap length f ∙ nodes-length log (at + markSize ed + 48) (countOf (diffAt log (at + markSize ed))) ∙ sym (ap countOf e);
           after = omega (arith, g, ap countOf e);
         }
     go n (an-end l) h = let z : _≡_ {A = ℕ} 0 1 = cc in absurd (omega arith)
@@ -120,31 +134,31 @@ head-clear ended b p h = let z : _≡_ {A = ℕ} 0 1 = cc in absurd (omega arith
 head-clear (stopped n) b p h = let z : _≡_ {A = ℕ} 0 1 = cc in absurd (omega arith)
 
 -- of an update, with all of it in the log
-pub record There (log : List ℕ) (at b c p : ℕ) : Type 0 where
-  pub here : nextAt log at ≡ next (updateOf log (at + 1)) p
-  pub bucket : b ≡ le (block 8 log (at + 1 + 56 + 32 * c))
-  pub plain : reserved (diffAt log (at + 1)) ≡ false
-  pub count : c ≡ countOf (diffAt log (at + 1))
+pub record There (ed : Edition) (log : List ℕ) (at b c p : ℕ) : Type 0 where
+  pub here : nextAt ed log at ≡ next (updateOf log (at + markSize ed)) p
+  pub bucket : b ≡ le (block 8 log (at + markSize ed + 56 + 32 * c))
+  pub plain : reserved (diffAt log (at + markSize ed)) ≡ false
+  pub count : c ≡ countOf (diffAt log (at + markSize ed))
   pub few : c ≤ 126
-  pub after : p ≡ at + (65 + 32 * c)
-  pub within : at + (65 + 32 * c) ≤ length log
+  pub after : p ≡ at + updateSize ed c
+  pub within : at + updateSize ed c ≤ length log
 
-pub head-update : (log : List ℕ) (at b c p : ℕ) → anUpdate b c p ≡ headOf (nextAt log at) → There log at b c p
+pub head-update : (ed : Edition) (log : List ℕ) (at b c p : ℕ) → anUpdate b c p ≡ headOf (nextAt ed log at) → There ed log at b c p
 unfolding updateOf
-head-update log at b c p h = go (nextAt log at) (stands log at) refl h
+head-update ed log at b c p h = go (nextAt ed log at) (stands ed log at) refl h
   where
-    go : (n : Next) → Stands log at n → nextAt log at ≡ n → anUpdate b c p ≡ headOf n → There log at b c p
+    go : (n : Next) → Stands ed log at n → nextAt ed log at ≡ n → anUpdate b c p ≡ headOf n → There ed log at b c p
     go n (a-clear l) i h = let z : _≡_ {A = ℕ} 0 1 = cc in absurd (omega arith)
     go n (an-update r l) i h =
-        let e : c ≡ countOf (diffAt log (at + 1)) = cc in
-        let f : b ≡ le (block 8 log (at + 1 + 56 + 32 * countOf (diffAt log (at + 1)))) = cc in
-        let g : p ≡ at + 1 + (64 + 32 * countOf (diffAt log (at + 1))) = cc in
+        let e : c ≡ countOf (diffAt log (at + markSize ed)) = cc in
+        let f : b ≡ le (block 8 log (at + markSize ed + 56 + 32 * countOf (diffAt log (at + markSize ed)))) = cc in
+        let g : p ≡ at + markSize ed + updateBody (countOf (diffAt log (at + markSize ed))) = cc in
         record {
-          here = i ∙ sym (ap (next (updateOf log (at + 1))) g);
-          bucket = f ∙ sym (ap (λ (k : ℕ). le (block 8 log (at + 1 + 56 + 32 * k))) e);
+          here = i ∙ sym (ap (next (updateOf log (at + markSize ed))) g);
+          bucket = f ∙ sym (ap (λ (k : ℕ). le (block 8 log (at + markSize ed + 56 + 32 * k))) e);
           plain = r;
           count = e;
-          few = omega (arith, plain-count (diffAt log (at + 1)) r);
+          few = omega (arith, plain-count (diffAt log (at + markSize ed)) r);
           after = omega arith;
           within = omega arith;
         }
@@ -153,35 +167,35 @@ head-update log at b c p h = go (nextAt log at) (stands log at) refl h
 
 -- ---- the whole reading
 -- both ways read alike where an entry's rest does
-alike : (log : List ℕ) (at : ℕ) (f g : ℕ → Reading) → ((e : Entry) (p : ℕ) → nextAt log at ≡ next e p → f p ≡ g p) → (n : Next) → nextAt log at ≡ n → readOn n at f ≡ readOn n at g
-alike log at f g same (next e p) h = ap (andThen e) (same e p h)
-alike log at f g same ended h = refl
-alike log at f g same (stopped k) h = refl
+alike : (ed : Edition) (log : List ℕ) (at : ℕ) (f g : ℕ → Reading) → ((e : Entry) (p : ℕ) → nextAt ed log at ≡ next e p → f p ≡ g p) → (n : Next) → nextAt ed log at ≡ n → readOn n at f ≡ readOn n at g
+alike ed log at f g same (next e p) h = ap (andThen e) (same e p h)
+alike ed log at f g same ended h = refl
+alike ed log at f g same (stopped k) h = refl
 
 -- fuel above the bytes that are left changes nothing
-pub read-enough : (f g : ℕ) (log : List ℕ) (at : ℕ) → length log ≤ at + f → length log ≤ at + g → readIn f log at ≡ readIn g log at
+pub read-enough : (ed : Edition) (f g : ℕ) (log : List ℕ) (at : ℕ) → length log ≤ at + f → length log ≤ at + g → readIn ed f log at ≡ readIn ed g log at
 unfolding readBy
-read-enough zero zero log at p q = refl
-read-enough zero (suc g) log at p q =
-    let s = next-past log at (omega arith) in
-    ap (λ (n : Next). readOn n at (λ r. stopAt r (refused 6))) s ∙ sym (ap (λ (n : Next). readOn n at (λ r. readIn g log r)) s)
-read-enough (suc f) zero log at p q =
-    let s = next-past log at (omega arith) in
-    ap (λ (n : Next). readOn n at (λ r. readIn f log r)) s ∙ sym (ap (λ (n : Next). readOn n at (λ r. stopAt r (refused 6))) s)
-read-enough (suc f) (suc g) log at p q =
-    alike log at (λ r. readIn f log r) (λ r. readIn g log r) (λ e r h. let m = moves log at e r h in read-enough f g log r (omega arith) (omega arith)) (nextAt log at) refl
+read-enough ed zero zero log at p q = refl
+read-enough ed zero (suc g) log at p q =
+    let s = next-past ed log at (omega arith) in
+    ap (λ (n : Next). readOn n at (λ r. stopAt r (refused 6))) s ∙ sym (ap (λ (n : Next). readOn n at (λ r. readIn ed g log r)) s)
+read-enough ed (suc f) zero log at p q =
+    let s = next-past ed log at (omega arith) in
+    ap (λ (n : Next). readOn n at (λ r. readIn ed f log r)) s ∙ sym (ap (λ (n : Next). readOn n at (λ r. stopAt r (refused 6))) s)
+read-enough ed (suc f) (suc g) log at p q =
+    alike ed log at (λ r. readIn ed f log r) (λ r. readIn ed g log r) (λ e r h. let m = moves ed log at e r h in read-enough ed f g log r (omega arith) (omega arith)) (nextAt ed log at) refl
 
-read-by : (f : ℕ) (log : List ℕ) (at : ℕ) → length log ≤ at + f → readFrom log at ≡ readIn (suc f) log at
-read-by f log at h = read-enough (length log) (suc f) log at (omega arith) (omega arith)
+read-by : (ed : Edition) (f : ℕ) (log : List ℕ) (at : ℕ) → length log ≤ at + f → readFrom ed log at ≡ readIn ed (suc f) log at
+read-by ed f log at h = read-enough ed (length log) (suc f) log at (omega arith) (omega arith)
 
-pub read-entry : (log : List ℕ) (at : ℕ) (e : Entry) (p : ℕ) → nextAt log at ≡ next e p → readFrom log at ≡ andThen e (readFrom log p)
+pub read-entry : (ed : Edition) (log : List ℕ) (at : ℕ) (e : Entry) (p : ℕ) → nextAt ed log at ≡ next e p → readFrom ed log at ≡ andThen e (readFrom ed log p)
 unfolding readBy
-read-entry log at e p h = read-by (length log) log at (omega arith) ∙ ap (λ (n : Next). readOn n at (λ r. readIn (length log) log r)) h
+read-entry ed log at e p h = read-by ed (length log) log at (omega arith) ∙ ap (λ (n : Next). readOn n at (λ r. readIn ed (length log) log r)) h
 
-pub read-end : (log : List ℕ) (at : ℕ) → nextAt log at ≡ ended → readFrom log at ≡ stopAt at (given tt)
+pub read-end : (ed : Edition) (log : List ℕ) (at : ℕ) → nextAt ed log at ≡ ended → readFrom ed log at ≡ stopAt at (given tt)
 unfolding readBy
-read-end log at h = read-by (length log) log at (omega arith) ∙ ap (λ (n : Next). readOn n at (λ r. readIn (length log) log r)) h
+read-end ed log at h = read-by ed (length log) log at (omega arith) ∙ ap (λ (n : Next). readOn n at (λ r. readIn ed (length log) log r)) h
 
-pub read-stop : (log : List ℕ) (at k : ℕ) → nextAt log at ≡ stopped k → readFrom log at ≡ stopAt at (refused k)
+pub read-stop : (ed : Edition) (log : List ℕ) (at k : ℕ) → nextAt ed log at ≡ stopped k → readFrom ed log at ≡ stopAt at (refused k)
 unfolding readBy
-read-stop log at k h = read-by (length log) log at (omega arith) ∙ ap (λ (n : Next). readOn n at (λ r. readIn (length log) log r)) h
+read-stop ed log at k h = read-by ed (length log) log at (omega arith) ∙ ap (λ (n : Next). readOn n at (λ r. readIn ed (length log) log r)) h

@@ -2,18 +2,20 @@
 -- entries, or the start's refusal; and after the end, or a refusal, the reader is as it was, so it answers the same again. Assumes nothing.
 use mathlib.Core.Path.{_≡_, refl, sym, ap, ap₂, _∙_, subst}
 use mathlib.Core.List.{List, _∷_}
-use Prim.Native.Nat.{ℕ}
+use Prim.Native.Nat.{ℕ, _%_}
 use native.Mathlib.Omega.{arith}
-use lib.ListN.{length, replicate}
+use lib.ListN.{length, getD, replicate}
 use denote.Ref.{RefT, now}
 use Rattle.answers.specs.Answers.{Answer, refused, numberSaid}
 use Rattle.answers.specs.Refusals.{numberOf}
 use Rattle.answers.specs.declared.Number.{Number}
 use Rattle.answers.proofs.Laws.{number-one}
-use Rattle.wal.specs.Log.{clear, update, startSize}
-use Rattle.wal.specs.Reader.{Next, next, ended, stopped, startOf}
+use Rattle.wal.specs.Log.{clear, update}
+use Rattle.wal.specs.Reader.{Next, next, ended, stopped, startIn, startOf}
+use Rattle.wal.specs.declared.Edition.the-variants.{One}
+use Rattle.wal.proofs.EditionOne.{old-reader-refuses}
 use Rattle.wal_read.specs.Entry.{Kind, ends, refuses, whatOf, whatSaid, nextOf, Taken}
-use Rattle.wal_read.specs.Set.{givesAt, SetOn, Gives, Reads, Over, at-end, at-refusal, Calls, none, call}
+use Rattle.wal_read.specs.Set.{firstAt, givesBy, givesAt, SetOn, Gives, Reads, Over, at-end, at-refusal, Calls, none, call}
 use Rattle.wal_read.specs.declared.What.{What}
 use Rattle.wal_read.specs.declared.WalEntry.{WalEntry}
 use Rattle.wal_read.specs.declared.WalBlobReader.{WalBlobReader}
@@ -42,10 +44,10 @@ module _ (log : RefT (List ℕ)) (r : WalBlobReader) (set : SetOn log r) where
   set-seqn n e = ap numberSaid e ∙ set .start-is
 
   -- it gives what the log has for it, by the start
-  pub set-gives : (e : WalEntry) → Gives r e → Taken (givesAt (startOf (now log)) (now log) startSize) startSize e
+  pub set-gives : (e : WalEntry) → Gives r e → Taken (givesAt (startOf (now log)) (now log) (firstAt (now log))) (firstAt (now log)) e
   set-gives e g =
-      subst (λ (a : Answer ℕ). Taken (givesAt a (now log) startSize) startSize e) (set .start-is)
-      (subst (λ (l : RefT (List ℕ)). Taken (givesAt (numberSaid (r .start)) (now l) startSize) startSize e) (set .log-is)
+      subst (λ (a : Answer ℕ). Taken (givesAt a (now log) (firstAt (now log))) (firstAt (now log)) e) (set .start-is)
+      (subst (λ (l : RefT (List ℕ)). Taken (givesAt (numberSaid (r .start)) (now l) (firstAt (now log))) (firstAt (now log)) e) (set .log-is)
       (subst (λ (p : ℕ). Taken (givesAt (numberSaid (r .start)) (now (r .log)) p) p e) (set .at-is) g))
 
 -- ---- "After end it answers end again", and after a refusal that refusal
@@ -91,8 +93,12 @@ set-refuses log r set n h e after read =
 
 -- two calls one after the other on a reader set on a log: what the second gives
 pub second-gives : (log : RefT (List ℕ)) (r after last : WalBlobReader) (d e : WalEntry) → SetOn log r → Reads r d after → Reads after e last
-    → let n : Next = givesAt (startOf (now log)) (now log) startSize in Taken (givesAt (startOf (now log)) (now log) (nextOf n startSize)) (nextOf n startSize) e
+    → let n : Next = givesAt (startOf (now log)) (now log) (firstAt (now log)) in Taken (givesAt (startOf (now log)) (now log) (nextOf n (firstAt (now log)))) (nextOf n (firstAt (now log))) e
 second-gives log r after last d e set first second =
     subst (λ (p : ℕ). Taken (givesAt (startOf (now log)) (now log) p) p e) (first .at-moves ∙ set-gives log r set d (first .entry-is) .next-is)
     (subst (λ (a : Answer ℕ). Taken (givesAt a (now log) (after .at)) (after .at) e) (ap numberSaid (first .start-stays) ∙ set .start-is)
     (subst (λ (l : RefT (List ℕ)). Taken (givesAt (numberSaid (after .start)) (now l) (after .at)) (after .at) e) (first .log-stays ∙ set .log-is) (second .entry-is)))
+
+-- "An edition one reader meets 0xB2 and answers 7, never entries": so an old program refuses a new log, wherever it stands
+pub old-reader-gives : (log : List ℕ) (at : ℕ) → getD log 0 0 ≡ 0xB2 → length log % 4096 ≡ 0 → givesBy One (startIn One log) log at ≡ stopped 7
+old-reader-gives log at e pages = ap (λ (a : Answer ℕ). givesBy One a log at) (old-reader-refuses log e pages)

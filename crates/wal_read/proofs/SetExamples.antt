@@ -9,8 +9,9 @@ use Rattle.answers.specs.declared.Number.the-variants as num
 use Rattle.answers.specs.declared.Refusal.the-variants.{NoStart}
 use Rattle.blocks.specs.Blocks.{block}
 use Rattle.page_diff.specs.Pack.{packedBy}
-use Rattle.wal.specs.Log.{startRecord, endRecord}
-use Rattle.wal.specs.Reader.{startOf, nextAt}
+use Rattle.wal.specs.Log.{editionOne, startRecord, endRecord}
+use Rattle.wal.specs.Reader.{startIn, nextAt}
+use Rattle.wal.specs.declared.Edition.the-variants.{One}
 use Rattle.wal_read.specs.Entry.{rows}
 use Rattle.wal_read.specs.Set.{SetOn, Reads}
 use Rattle.wal_read.specs.declared.What.{What}
@@ -31,10 +32,10 @@ reader log n = record { log = lent log; at = 5; start = n }
 
 -- sync 7 and no entry: set, it stands at the end, and is there again
 abbrev empty : List ℕ
-empty = startRecord 7 ++ endRecord 5
+empty = startRecord (editionOne 7) ++ endRecord One 5
 
 set-at-end : SetOn (lent empty) (reader empty (num.Is 7))
-unfolding block startOf
+unfolding block startIn
 set-at-end = record { log-is = refl; at-is = refl; start-is = refl }
 
 read-at-end : Reads (reader empty (num.Is 7)) (bare what.End) (reader empty (num.Is 7))
@@ -46,7 +47,7 @@ abbrev zeros : List ℕ
 zeros = replicate 4096 0
 
 set-refused : SetOn (lent zeros) (reader zeros (num.Refused NoStart))
-unfolding startOf
+unfolding startIn
 set-refused = record { log-is = refl; at-is = refl; start-is = refl }
 
 read-refused : Reads (reader zeros (num.Refused NoStart)) (bare (what.Refused NoStart)) (reader zeros (num.Refused NoStart))

@@ -6,22 +6,31 @@ use denote.Ref.{RefT, now}
 use Rattle.answers.specs.Answers.{Answer, given, refused, numberSaid}
 use Rattle.answers.specs.declared.Refusal.{Refusal}
 use Rattle.wal.specs.Log.{startSize}
-use Rattle.wal.specs.Reader.{Next, stopped, startOf, nextAt}
+use Rattle.wal.specs.Reader.{Next, stopped, editionAt, startOf, nextAt}
+use Rattle.wal.specs.declared.Edition.{Edition}
 use Rattle.wal_read.specs.Entry.{Taken}
 use Rattle.wal_read.specs.declared.What.{What}
 use Rattle.wal_read.specs.declared.What.the-variants as what
 use Rattle.wal_read.specs.declared.WalBlobReader.{WalBlobReader}
 use Rattle.wal_read.specs.declared.WalEntry.{WalEntry}
 
--- what it gives at a position, by what its start answered: the entry there, or the start's refusal
+-- where the first entry of a log stands
+abbrev pub firstAt : List ℕ → ℕ
+firstAt log = startSize (editionAt log)
+
+-- what a reader of an edition gives at a position, by what its start answered: the entry there, or the start's refusal
+abbrev pub givesBy : Edition → Answer ℕ → List ℕ → ℕ → Next
+givesBy ed (given sync) log at = nextAt ed log at
+givesBy ed (refused n) log at = stopped n
+
+-- ours reads by the log's own edition
 abbrev pub givesAt : Answer ℕ → List ℕ → ℕ → Next
-givesAt (given sync) log at = nextAt log at
-givesAt (refused n) log at = stopped n
+givesAt a log at = givesBy (editionAt log) a log at
 
 -- "Setting it reads the start and gives the sync number"; it then stands before the first entry
 pub record SetOn (log : RefT (List ℕ)) (r : WalBlobReader) : Type 0 where
   pub log-is : r .log ≡ log
-  pub at-is : r .at ≡ startSize
+  pub at-is : r .at ≡ firstAt (now log)
   pub start-is : numberSaid (r .start) ≡ startOf (now log)
 
 -- the entry at which it stands

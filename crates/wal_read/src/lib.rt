@@ -1,23 +1,24 @@
 // The read path of a log, as the original's wal/read.rs. `head_at` is the core: it takes a record
-// apart but for its nodes, and builds no table. `entry_at` gives the whole entry. Both take the log and
-// a position; `WalBlobReader` holds the two, and what the log's start answered.
+// apart but for its nodes, and builds no table. `entry_at` gives the whole entry. Both take the log, its
+// edition and a position; `WalBlobReader` holds log and position, and what the log's start answered.
 ghost use mathlib.Core.Path.{_≡_};
 ghost use Prim.Native.Nat.{_+_, _*_, _≤_};
 ghost use lib.ListN.{length};
 ghost use Rattle.answers.specs.Answers.{outcomeSaid, numberSaid};
 ghost use Rattle.blocks.specs.Blocks.{block};
 ghost use Rattle.page_diff.specs.Diff.{readAnswer, readWords};
-ghost use Rattle.wal.specs.Reader.{startOf, nextAt, nodesFrom};
+ghost use Rattle.wal.specs.Reader.{editionAt, startOf, seedOf, byTag, tagAt, nextAt, nodesFrom};
 ghost use Rattle.wal_read.specs.Head.{headOf, headSaid};
 ghost use Rattle.wal_read.specs.Entry.{Taken, rows};
-ghost use Rattle.wal_read.specs.InnerEntry.{Bare};
-ghost use Rattle.wal_read.specs.Set.{givesAt, SetOn, Gives, Reads};
+ghost use Rattle.wal_read.specs.InnerEntry.{Bare, tagSaid};
+ghost use Rattle.wal_read.specs.Set.{firstAt, givesAt, SetOn, Gives, Reads};
 use answers::Number;
 use answers::Outcome;
 use answers::Refusal;
 use page_diff::Diff;
 use page_diff::DiffAnswer;
 use page_diff::Packed;
+use wal::Edition;
 
 // A record without its nodes: the bucket, the count of nodes, and the position after the record.
 pub enum Head {
@@ -31,6 +32,12 @@ pub enum Head {
         next: usize,
     },
     End,
+    Refused(Refusal),
+}
+
+// The tag of a mark, or the refusal where there is none.
+enum Tag {
+    Is(u8),
     Refused(Refusal),
 }
 
@@ -52,8 +59,27 @@ pub struct WalEntry {
     pub next: usize,
 }
 
-// The sync number of a log, read when a reader is set on it: 5, 6 for an empty log, 7. The first entry
-// stands at wal::START_SIZE.
+// The edition that a log's first byte tells: two for 0xB2, else one.
+pub fn edition_of(log: &[u8]) -> Edition
+    ensures { λ r. ⌜ r ≡ editionAt (now (log .entry)) ⌝ }
+{
+    if 0 < log.len() {
+        if log[0] == wal::WAL_EDITION_TWO {
+            return Edition::Two;
+        }
+    }
+    Edition::One
+}
+
+// The seed in the start of a log of edition two; zeros where the log is shorter than a start.
+pub fn seed_of(log: &[u8]) -> [u8; 16]
+    ensures { λ r. ⌜ r ≡ seedOf (now (log .entry)) ⌝ }
+{
+    blocks::block_16(log, wal::SEED_AT)
+}
+
+// The sync number of a log of either edition, read when a reader is set on it: 5, 6 for an empty log, 7. The first
+// entry stands at wal::start_size of its edition.
 pub fn set(log: &[u8]) -> Number
     ensures { λ r. ⌜ numberSaid r ≡ startOf (now (log .entry)) ⌝ }
 {
@@ -63,10 +89,11 @@ pub fn set(log: &[u8]) -> Number
     if log.len() == 0 {
         return Number::Refused(Refusal::LogCut);
     }
-    if log[0] != wal::WAL_ENTRY_TAG_START {
+    let body = wal::mark_size(edition_of(log));
+    if log[body - 1] != wal::WAL_ENTRY_TAG_START {
         return Number::Refused(Refusal::NoStart);
     }
-    Number::Is(blocks::read_u32(log, 1) as u64)
+    Number::Is(blocks::read_u32(log, body) as u64)
 }
 
 // The diff of the update whose body is at `body`, or a refusal of it.
@@ -77,17 +104,31 @@ fn diff_at(log: &[u8], body: usize) -> DiffAnswer
     page_diff::from_bytes(blocks::block_16(log, body + wal::DIFF_AT))
 }
 
-// The record at `at` without its nodes: its mark, and what is read after it. It looks at no byte past the record,
-// and no sum wraps on a position that no call answered.
-pub fn head_at(log: &[u8], at: usize) -> Head
-    ensures { λ r. ⌜ headSaid r ≡ headOf (nextAt (now (log .entry)) at) ⌝ }
+// The tag of the mark at `at`: 6 where the log ends before it, 8 in edition two where 0xB2 is missing.
+fn tag_at(log: &[u8], at: usize, edition: Edition) -> Tag
+    ensures { λ r. ⌜ tagSaid r ≡ tagAt edition (now (log .entry)) at ⌝ }
 {
     if log.len() <= at {
-        return Head::Refused(Refusal::LogCut);
+        return Tag::Refused(Refusal::LogCut);
     }
-    let body = at + wal::MARK_SIZE;
+    let Edition::Two = edition else {
+        return Tag::Is(log[at]);
+    };
+    if log[at] != wal::WAL_EDITION_TWO {
+        return Tag::Refused(Refusal::TagUnknown);
+    }
+    if log.len() - at < 2 {
+        return Tag::Refused(Refusal::LogCut);
+    }
+    Tag::Is(log[at + 1])
+}
+
+// What stands from `body` on, after the mark of a tag, without its nodes. It looks at no byte past the record.
+fn head_after(log: &[u8], body: usize, tag: u8) -> Head
+    requires { ⌜ body ≤ length (now log) ⌝ }
+    ensures { λ r. ⌜ headSaid r ≡ headOf (byTag tag (now (log .entry)) body) ⌝ }
+{
     let left = log.len() - body;
-    let tag = log[at];
     if tag == wal::WAL_ENTRY_TAG_END {
         return Head::End;
     }
@@ -120,6 +161,18 @@ pub fn head_at(log: &[u8], at: usize) -> Head
         bucket: blocks::read_u64(log, body + (size - 8)),
         count,
         next: body + size,
+    }
+}
+
+// The record at `at` without its nodes: its mark, and what is read after it. No sum wraps on a position that no call
+// answered.
+pub fn head_at(log: &[u8], at: usize, edition: Edition) -> Head
+    ensures { λ r. ⌜ headSaid r ≡ headOf (nextAt edition (now (log .entry)) at) ⌝ }
+{
+    let found = tag_at(log, at, edition);
+    match found {
+        Tag::Is(tag) => head_after(log, at + wal::mark_size(edition), tag),
+        Tag::Refused(why) => Head::Refused(why),
     }
 }
 
@@ -157,10 +210,10 @@ fn bare(what: What, next: usize) -> WalEntry
 }
 
 // The entry at `at`. At the end and on a refusal `next` is `at` itself.
-pub fn entry_at(log: &[u8], at: usize) -> WalEntry
-    ensures { λ e. ⌜ Taken (nextAt (now (log .entry)) at) at e ⌝ }
+pub fn entry_at(log: &[u8], at: usize, edition: Edition) -> WalEntry
+    ensures { λ e. ⌜ Taken (nextAt edition (now (log .entry)) at) at e ⌝ }
 {
-    let head = head_at(log, at);
+    let head = head_at(log, at, edition);
     match head {
         Head::Clear { bucket, next } => bare(What::Clear(bucket), next),
         Head::Update {
@@ -168,7 +221,7 @@ pub fn entry_at(log: &[u8], at: usize) -> WalEntry
             count,
             next,
         } => {
-            let body = at + wal::MARK_SIZE;
+            let body = at + wal::mark_size(edition);
             let id = blocks::block_32(log, body);
             let read = diff_at(log, body);
             let diff = read.diff;
@@ -188,12 +241,13 @@ pub fn entry_at(log: &[u8], at: usize) -> WalEntry
     }
 }
 
-// What a reader whose start was answered so gives at `at`: the entry there, or the start's refusal again.
+// What a reader whose start was answered so gives at `at`: the entry there, by the log's own edition, or the
+// start's refusal again.
 pub fn entry_set(log: &[u8], at: usize, start: Number) -> WalEntry
     ensures { λ e. ⌜ Taken (givesAt (numberSaid start) (now (log .entry)) at) at e ⌝ }
 {
     match start {
-        Number::Is(_) => entry_at(log, at),
+        Number::Is(_) => entry_at(log, at, edition_of(log)),
         Number::Refused(why) => bare(What::Refused(why), at),
     }
 }
@@ -205,17 +259,21 @@ pub struct WalBlobReader<'a> {
     pub start: Number,
 }
 
+// Where the first entry of a log stands.
+pub fn first_at(log: &[u8]) -> usize
+    ensures { λ r. ⌜ r ≡ firstAt (now (log .entry)) ⌝ }
+{
+    wal::start_size(edition_of(log))
+}
+
 // Sets a reader on a log: it reads the start, and stands before the first entry. Where the start is
 // refused, each call on the reader is refused so.
 pub fn new<'a>(log: &'a [u8]) -> WalBlobReader<'a>
     ensures { λ r. ⌜ SetOn (log .entry) r ⌝ }
 {
     let start = set(log);
-    WalBlobReader {
-        log,
-        at: wal::START_SIZE,
-        start,
-    }
+    let at = first_at(log);
+    WalBlobReader { log, at, start }
 }
 
 // The sync number that the start gave, or its refusal.

@@ -7,28 +7,29 @@ use Prim.Native.Nat.{ℕ, _+_, _-_, _≤_, _<_}
 use native.Mathlib.Nat.{lt-of-not-le}
 use native.Mathlib.Decide.{decLe}
 use native.Mathlib.Omega.{arith}
-use lib.Dec.{leb, ltb, eqb}
+use lib.Dec.{leb, eqb}
 use lib.ListN.{length}
 use types.Run.{OneOf}
 use denote.Enum.Declared.{tagOf}
-use borrow.Author.Tests.{le-leb, lt-leb, lt-ltb, le-ltb}
+use borrow.Author.Tests.{le-leb, lt-leb}
 use Rattle.answers.specs.Answers.{Answer, given, refused}
 use Rattle.blocks.specs.Blocks.{put}
 use Rattle.page_diff.specs.Diff.{countOf, reserved}
-use Rattle.wal.specs.Log.{clearSize, updateSize, finishedLength}
-use Rattle.wal.specs.Writer.{capacity, position, ifOpen, ifRoom, logBy, writerBy, beginAnswer, clearAnswer, updateAnswer, finishAnswer, recordLog, recordWriter}
+use Rattle.wal.specs.Log.{markSize, clearSize, updateSize, finishedLength}
+use Rattle.wal.specs.Writer.{openAt, capacity, position, editionOf, ifOpen, ifRoom, logBy, writerBy, beginAnswer, clearAnswer, updateAnswer, finishAnswer, recordLog, recordWriter}
+use Rattle.wal.specs.declared.Edition.{Edition}
 use Rattle.wal.specs.declared.Writer.{Writer}
 use Rattle.wal.specs.declared.Writer.the-variants.{Fresh, Open, Finished}
 use Rattle.wal.proofs.Writer as WriterT
 use Rattle.wal_write.specs.Calls.{pageUpdateAnswer}
 
--- ---- room, tested by a difference
-pub room-test : (at size cap : ℕ) → size < cap → ltb at (cap - size) ≡ leb (at + size + 1) cap
-room-test at size cap h = go (decLe (cap - size) at)
+-- ---- room, tested by differences
+pub room-test : (at size m cap : ℕ) → size ≤ cap → m ≤ cap - size → leb at (cap - size - m) ≡ leb (at + size + m) cap
+room-test at size m cap h k = go (decLe at (cap - size - m))
   where
-    go : Dec (cap - size ≤ at) → ltb at (cap - size) ≡ leb (at + size + 1) cap
-    go (yes p) = le-ltb at (cap - size) p ∙ sym (lt-leb (at + size + 1) cap (omega arith))
-    go (no p) = lt-ltb at (cap - size) (lt-of-not-le p) ∙ sym (le-leb (at + size + 1) cap (omega arith))
+    go : Dec (at ≤ cap - size - m) → leb at (cap - size - m) ≡ leb (at + size + m) cap
+    go (yes p) = le-leb at (cap - size - m) p ∙ sym (le-leb (at + size + m) cap (omega arith))
+    go (no p) = lt-leb at (cap - size - m) (lt-of-not-le p) ∙ sym (lt-leb (at + size + m) cap (omega (arith, lt-of-not-le p)))
 
 -- ---- begin
 pub begin-short : (log : List ℕ) → length log < 4096 → beginAnswer log ≡ refused 13
@@ -39,42 +40,42 @@ pub begin-given : (log : List ℕ) → 4096 ≤ length log → beginAnswer log �
 unfolding beginAnswer
 begin-given log h = ap (λ (t : Bool). cond t (given tt) (refused 13)) (le-leb 4096 (capacity log) (omega arith))
 
--- ---- the other calls: a writer that is open, what is lent in order (fit, and no reserved bit), room. A call that is lent nothing tests
--- neither
+-- ---- the other calls: a writer that is open, what is lent in order (fit, and no reserved bit), room for a record whose size goes by the
+-- edition. A call that is lent nothing tests neither
 module _ {A : Type 0} where
-  abbrev pub tested : List ℕ → Writer → Bool → Bool → ℕ → Answer A → Answer A
-  tested log w fit bad size a = ifOpen w (cond fit (cond bad (refused 4) (ifRoom log w size a)) (refused 2))
+  abbrev pub tested : List ℕ → Writer → Bool → Bool → (Edition → ℕ) → Answer A → Answer A
+  tested log w fit bad size a = ifOpen w (cond fit (cond bad (refused 4) (ifRoom log w (size (editionOf w)) a)) (refused 2))
 
 -- what a `let .. else` tells in its else
 abbrev pub NotOpen : Writer → Type 0
 NotOpen w = OneOf (0 ∷ 2 ∷ []) (tagOf WriterT.the-type w)
 
-module _ {A : Type 0} (log : List ℕ) (w : Writer) (fit bad : Bool) (size : ℕ) (a : Answer A) where
+module _ {A : Type 0} (log : List ℕ) (w : Writer) (fit bad : Bool) (size : Edition → ℕ) (a : Answer A) where
   pub not-open : NotOpen w → tested log w fit bad size a ≡ refused 12
   not-open o = go w o
     where
       go : (v : Writer) → NotOpen v → tested log v fit bad size a ≡ refused 12
       go Fresh o = refl
-      go (Open p) o = absurd (⊎-elim (λ (e : 1 ≡ 0). omega arith) (λ (e : 1 ≡ 2). omega arith) o)
+      go (Open p ed) o = absurd (⊎-elim (λ (e : 1 ≡ 0). omega arith) (λ (e : 1 ≡ 2). omega arith) o)
       go (Finished n) o = refl
 
-  module _ (at : ℕ) (o : w ≡ Open at) where
-    opened : tested log w fit bad size a ≡ cond fit (cond bad (refused 4) (ifRoom log (Open at) size a)) (refused 2)
+  module _ (ed : Edition) (at : ℕ) (o : w ≡ openAt ed at) where
+    opened : tested log w fit bad size a ≡ cond fit (cond bad (refused 4) (ifRoom log (openAt ed at) (size ed) a)) (refused 2)
     opened = ap (λ (v : Writer). tested log v fit bad size a) o
 
     pub unfit : fit ≡ false → tested log w fit bad size a ≡ refused 2
-    unfit f = opened ∙ ap (λ (t : Bool). cond t (cond bad (refused 4) (ifRoom log (Open at) size a)) (refused 2)) f
+    unfit f = opened ∙ ap (λ (t : Bool). cond t (cond bad (refused 4) (ifRoom log (openAt ed at) (size ed) a)) (refused 2)) f
 
     pub reserved-bit : fit ≡ true → bad ≡ true → tested log w fit bad size a ≡ refused 4
-    reserved-bit f b = opened ∙ ap₂ (λ (t r : Bool). cond t (cond r (refused 4) (ifRoom log (Open at) size a)) (refused 2)) f b
+    reserved-bit f b = opened ∙ ap₂ (λ (t r : Bool). cond t (cond r (refused 4) (ifRoom log (openAt ed at) (size ed) a)) (refused 2)) f b
 
-    by-room : fit ≡ true → bad ≡ false → tested log w fit bad size a ≡ ifRoom log (Open at) size a
-    by-room f b = opened ∙ ap₂ (λ (t r : Bool). cond t (cond r (refused 4) (ifRoom log (Open at) size a)) (refused 2)) f b
+    by-room : fit ≡ true → bad ≡ false → tested log w fit bad size a ≡ ifRoom log (openAt ed at) (size ed) a
+    by-room f b = opened ∙ ap₂ (λ (t r : Bool). cond t (cond r (refused 4) (ifRoom log (openAt ed at) (size ed) a)) (refused 2)) f b
 
-    pub no-room : fit ≡ true → bad ≡ false → leb (at + size + 1) (capacity log) ≡ false → tested log w fit bad size a ≡ refused 13
+    pub no-room : fit ≡ true → bad ≡ false → leb (at + size ed + markSize ed) (capacity log) ≡ false → tested log w fit bad size a ≡ refused 13
     no-room f b h = by-room f b ∙ ap (λ (t : Bool). cond t a (refused 13)) h
 
-    pub taken : fit ≡ true → bad ≡ false → leb (at + size + 1) (capacity log) ≡ true → tested log w fit bad size a ≡ a
+    pub taken : fit ≡ true → bad ≡ false → leb (at + size ed + markSize ed) (capacity log) ≡ true → tested log w fit bad size a ≡ a
     taken f b h = by-room f b ∙ ap (λ (t : Bool). cond t a (refused 13)) h
 
 -- which tests each call makes
@@ -82,15 +83,15 @@ pub clear-tests : (log : List ℕ) (w : Writer) → clearAnswer log w ≡ tested
 unfolding clearAnswer
 clear-tests log w = refl
 
-pub update-tests : (log : List ℕ) (w : Writer) (ws : List ℕ) (held : ℕ) → updateAnswer log w ws held ≡ tested log w (eqb held (countOf ws)) (reserved ws) (updateSize held) (given tt)
+pub update-tests : (log : List ℕ) (w : Writer) (ws : List ℕ) (held : ℕ) → updateAnswer log w ws held ≡ tested log w (eqb held (countOf ws)) (reserved ws) (λ ed. updateSize ed held) (given tt)
 unfolding updateAnswer
 update-tests log w ws held = refl
 
-pub page-tests : (log : List ℕ) (w : Writer) (ws page : List ℕ) → pageUpdateAnswer log w ws page ≡ tested log w (eqb (length page) 4096) (reserved ws) (updateSize (countOf ws)) (given tt)
+pub page-tests : (log : List ℕ) (w : Writer) (ws page : List ℕ) → pageUpdateAnswer log w ws page ≡ tested log w (eqb (length page) 4096) (reserved ws) (λ ed. updateSize ed (countOf ws)) (given tt)
 unfolding pageUpdateAnswer
 page-tests log w ws page = refl
 
-pub finish-tests : (log : List ℕ) (w : Writer) → finishAnswer log w ≡ tested log w true false 0 (given (finishedLength (position w)))
+pub finish-tests : (log : List ℕ) (w : Writer) → finishAnswer log w ≡ tested log w true false (λ ed. 0) (given (finishedLength (editionOf w) (position w)))
 unfolding finishAnswer
 finish-tests log w = refl
 
@@ -115,12 +116,14 @@ module _ {A : Type 0} (a : Answer A) (w v : Writer) (log : List ℕ) (pos : ℕ)
     ),
   )
 
--- the same of a record of so many bytes
-module _ (a : Answer (Unit {0})) (log : List ℕ) (w : Writer) (size : ℕ) (bytes : List ℕ) where
-  pub record-refused : (n : ℕ) (said : Answer (Unit {0})) (state : Writer) → a ≡ refused n → said ≡ refused n → state ≡ w → (said ≡ a) × ((state ≡ recordWriter a w size) × (log ≡ recordLog a log w bytes))
-  record-refused n said state e k s = refused-leaves a w (Open (position w + size)) log (position w) bytes n said state e k s
+-- the same of a record whose bytes and size go by the edition
+module _ (a : Answer (Unit {0})) (log : List ℕ) (w : Writer) (size : Edition → ℕ) (bytes : Edition → List ℕ) where
+  pub record-refused : (n : ℕ) (said : Answer (Unit {0})) (state : Writer) → a ≡ refused n → said ≡ refused n → state ≡ w
+      → (said ≡ a) × ((state ≡ recordWriter a w (size (editionOf w))) × (log ≡ recordLog a log w (bytes (editionOf w))))
+  record-refused n said state e k s = refused-leaves a w (openAt (editionOf w) (position w + size (editionOf w))) log (position w) (bytes (editionOf w)) n said state e k s
 
-  pub record-given : (at : ℕ) (state : Writer) (out : List ℕ) → w ≡ Open at → a ≡ given tt → state ≡ Open (at + size) → out ≡ put log at bytes → (given tt ≡ a) × ((state ≡ recordWriter a w size) × (out ≡ recordLog a log w bytes))
-  record-given at state out o e s p =
-      given-leaves a w (Open (position w + size)) log (position w) bytes tt (given tt) state out e refl
-      (s ∙ sym (ap (λ (v : Writer). Open (position v + size)) o)) (p ∙ sym (ap (λ (v : Writer). put log (position v) bytes) o))
+  pub record-given : (ed : Edition) (at : ℕ) (state : Writer) (out : List ℕ) → w ≡ openAt ed at → a ≡ given tt → state ≡ openAt ed (at + size ed) → out ≡ put log at (bytes ed)
+      → (given tt ≡ a) × ((state ≡ recordWriter a w (size (editionOf w))) × (out ≡ recordLog a log w (bytes (editionOf w))))
+  record-given ed at state out o e s p =
+      given-leaves a w (openAt (editionOf w) (position w + size (editionOf w))) log (position w) (bytes (editionOf w)) tt (given tt) state out e refl
+      (s ∙ sym (ap (λ (v : Writer). openAt (editionOf v) (position v + size (editionOf v))) o)) (p ∙ sym (ap (λ (v : Writer). put log (position v) (bytes (editionOf v))) o))

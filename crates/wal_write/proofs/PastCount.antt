@@ -6,7 +6,7 @@ use Prim.Native.Nat.{ℕ}
 use lib.ListN.{take}
 use Rattle.page_diff.proofs.PastCount.{tableThen}
 use Rattle.wal.specs.Log.{update, recordOf}
-use Rattle.wal.specs.Writer.{updateAnswer, recordLog}
+use Rattle.wal.specs.Writer.{editionOf, updateAnswer, recordLog}
 use Rattle.wal.specs.declared.Writer.{Writer}
 use Rattle.wal_write.specs.Calls.{updateLog, Updates}
 use Rattle.wal_write.specs.declared.Written.{Written}
@@ -14,7 +14,7 @@ use Rattle.wal_write.proofs.WriterLaws.{written-one}
 
 module _ (log : List ℕ) (w : Writer) (id ws : List ℕ) (ns ms : List (List ℕ)) (held : ℕ) (elided : List ℕ) (b : ℕ) (same : take held ns ≡ take held ms) where
   pub update-ignores : updateLog log w id ws ns held elided b ≡ updateLog log w id ws ms held elided b
-  update-ignores = ap (λ (l : List (List ℕ)). recordLog (updateAnswer log w ws held) log w (recordOf (update id ws l elided b))) same
+  update-ignores = ap (λ (l : List (List ℕ)). recordLog (updateAnswer log w ws held) log w (recordOf (editionOf w) (update id ws l elided b))) same
 
   -- of the calls: one answer, one state, one log
   pub updates-alike : (r s : Written) (out end : List ℕ) → Updates log w id ws ns held elided b r out → Updates log w id ws ms held elided b s end → (r ≡ s) × (out ≡ end)

@@ -10,13 +10,15 @@ ghost use Rattle.answers.specs.Refusals.{numberOf};
 ghost use Rattle.answers.specs.Answers.{refused, outcomeSaid};
 ghost use Rattle.blocks.specs.Blocks.{bytesOf, put, flat};
 ghost use Rattle.page_diff.specs.Diff.{bytesOfWords};
-ghost use Rattle.wal.specs.Log.{clear, mark, recordOf, clearSize};
-ghost use Rattle.wal.specs.Run.{Rows};
+ghost use Rattle.wal.specs.Log.{clear, mark, markSize, startRecord, recordOf, clearSize};
+ghost use Rattle.wal.specs.Run.{Rows, WideStart};
 ghost use Rattle.wal_write.specs.Calls.{roomIn, Begins, Clears, Updates, UpdatesPage, Finishes};
 use answers::Number;
 use answers::Outcome;
 use answers::Refusal;
 use page_diff::Diff;
+use wal::Edition;
+use wal::Start;
 use wal::Writer;
 
 // The bytes of an update after its nodes.
@@ -34,26 +36,30 @@ pub struct FinishedAnswer {
     pub writer: Writer,
 }
 
-// Whether `size` bytes from `at` on, and the mark of the end after them, fit the whole pages of a log.
-fn room_at(log_len: usize, at: usize, size: usize) -> bool
-    ensures { λ r. ⌜ r ≡ leb (at + size + 1) («log_len» / 4096 * 4096) ⌝ }
+// Whether `size` bytes from `at` on, and `mark` more for the end after them, fit the whole pages of a log.
+fn room_at(log_len: usize, at: usize, size: usize, mark: usize) -> bool
+    ensures { λ r. ⌜ r ≡ leb (at + size + mark) («log_len» / 4096 * 4096) ⌝ }
 {
     let capacity = log_len / wal::PAGE_SIZE * wal::PAGE_SIZE;
-    if capacity <= size {
+    if capacity < size {
         return false;
     }
-    at < capacity - size
+    let left = capacity - size;
+    if left < mark {
+        return false;
+    }
+    at <= left - mark
 }
 
-// Whether a record of `size` bytes is taken where the writer stands, so that a caller can know 13
-// before it does anything else. A writer that is not open stands at 0.
-pub fn has_room(log_len: usize, w: Writer, size: usize) -> bool
-    ensures { λ r. ⌜ r ≡ roomIn «log_len» w size ⌝ }
+// Whether a record with `body` bytes after its mark is taken where the writer stands, so that a caller can know 13
+// before it does anything else. A writer that is not open stands at 0 of a log of edition one.
+pub fn has_room(log_len: usize, w: Writer, body: usize) -> bool
+    ensures { λ r. ⌜ r ≡ roomIn «log_len» w body ⌝ }
 {
     match w {
-        Writer::Fresh => room_at(log_len, 0, size),
-        Writer::Open(at) => room_at(log_len, at, size),
-        Writer::Finished(_) => room_at(log_len, 0, size),
+        Writer::Fresh => room_at(log_len, 0, body, 2),
+        Writer::Open(at, edition) => room_at(log_len, at, body, 2 * wal::mark_size(edition)),
+        Writer::Finished(_) => room_at(log_len, 0, body, 2),
     }
 }
 
@@ -67,54 +73,84 @@ fn kept(w: Writer, why: Refusal) -> Written
     }
 }
 
-// Starts a log, in any state: the start record at the front of a slice that holds a page, else 13.
-pub fn begin(log: &mut [u8], w: Writer, sync: u32) -> Written
-    ensures { λ r. ⌜ Begins (now (log .entry)) w sync r (now (log .exit)) ⌝ }
+// The mark of a tag.
+fn put_mark(log: &mut [u8], at: usize, edition: Edition, tag: u8)
+    requires { ⌜ at + markSize edition ≤ length (now log) ⌝ }
+    ensures { λ _. ⌜ now (log .exit) ≡ put (now (log .entry)) at (mark edition tag) ⌝ }
+{
+    if let Edition::Two = edition {
+        let next = at + 1;
+        log[at] = wal::WAL_EDITION_TWO;
+        log[next] = tag;
+    } else {
+        log[at] = tag;
+    }
+}
+
+// The bytes of a start.
+fn put_start(log: &mut [u8], start: Start)
+    requires { ⌜ 22 ≤ length (now log) ⌝ }
+    ensures { λ _. ⌜ (now (log .exit) ≡ put (now (log .entry)) 0 (startRecord start)) × WideStart start ⌝ }
+{
+    let edition = start.edition;
+    let seed = start.seed;
+    put_mark(log, 0, edition, wal::WAL_ENTRY_TAG_START);
+    blocks::write_u32(log, wal::mark_size(edition), start.sync);
+    if let Edition::Two = edition {
+        blocks::put_16(log, wal::SEED_AT, seed);
+    }
+}
+
+// Starts a log of an edition, in any state: the start record at the front of a slice that holds a page, else 13.
+pub fn begin(log: &mut [u8], w: Writer, start: Start) -> Written
+    ensures { λ r. ⌜ Begins (now (log .entry)) w start r (now (log .exit)) ⌝ }
 {
     if log.len() < wal::PAGE_SIZE {
         return kept(w, Refusal::NoRoom);
     }
-    log[0] = wal::WAL_ENTRY_TAG_START;
-    blocks::write_u32(log, wal::MARK_SIZE, sync);
+    let edition = start.edition;
+    put_start(log, start);
     Written {
         outcome: Outcome::Done,
-        writer: Writer::Open(wal::START_SIZE),
+        writer: Writer::Open(wal::start_size(edition), edition),
     }
 }
 
 // The bytes of a clear.
-fn put_clear(log: &mut [u8], at: usize, bucket: u64)
-    requires { ⌜ at + clearSize ≤ length (now log) ⌝ }
-    ensures { λ _. ⌜ now (log .exit) ≡ put (now (log .entry)) at (recordOf (clear bucket)) ⌝ }
+fn put_clear(log: &mut [u8], at: usize, edition: Edition, bucket: u64)
+    requires { ⌜ at + clearSize edition ≤ length (now log) ⌝ }
+    ensures { λ _. ⌜ now (log .exit) ≡ put (now (log .entry)) at (recordOf edition (clear bucket)) ⌝ }
 {
-    log[at] = wal::WAL_ENTRY_TAG_CLEAR;
-    blocks::write_u64(log, at + wal::MARK_SIZE, bucket);
+    put_mark(log, at, edition, wal::WAL_ENTRY_TAG_CLEAR);
+    blocks::write_u64(log, at + wal::mark_size(edition), bucket);
 }
 
 // Writes a clear of any bucket number: 12, 13.
 pub fn write_clear(log: &mut [u8], w: Writer, bucket: u64) -> Written
     ensures { λ r. ⌜ Clears (now (log .entry)) w bucket r (now (log .exit)) ⌝ }
 {
-    let Writer::Open(at) = w else {
+    let Writer::Open(at, edition) = w else {
         return kept(w, Refusal::WriterNotOpen);
     };
-    if !room_at(log.len(), at, wal::CLEAR_SIZE) {
+    let mark = wal::mark_size(edition);
+    let size = mark + wal::CLEAR_BODY;
+    if !room_at(log.len(), at, size, mark) {
         return kept(w, Refusal::NoRoom);
     }
-    put_clear(log, at, bucket);
+    put_clear(log, at, edition, bucket);
     Written {
         outcome: Outcome::Done,
-        writer: Writer::Open(at + wal::CLEAR_SIZE),
+        writer: Writer::Open(at + size, edition),
     }
 }
 
 // The bytes of an update before its nodes: mark, id, diff.
-fn put_head(log: &mut [u8], at: usize, id: [u8; 32], d: Diff)
-    requires { ⌜ at + 49 ≤ length (now log) ⌝ }
-    ensures { λ _. ⌜ (now (log .exit) ≡ put (now (log .entry)) at (mark 4 ++ (id ++ bytesOfWords (d .words)))) × (length id ≡ 32) ⌝ }
+fn put_head(log: &mut [u8], at: usize, edition: Edition, id: [u8; 32], d: Diff)
+    requires { ⌜ at + markSize edition + 48 ≤ length (now log) ⌝ }
+    ensures { λ _. ⌜ (now (log .exit) ≡ put (now (log .entry)) at (mark edition 4 ++ (id ++ bytesOfWords (d .words)))) × (length id ≡ 32) ⌝ }
 {
-    let body = at + wal::MARK_SIZE;
-    log[at] = wal::WAL_ENTRY_TAG_UPDATE;
+    let body = at + wal::mark_size(edition);
+    put_mark(log, at, edition, wal::WAL_ENTRY_TAG_UPDATE);
     blocks::put_32(log, body, id);
     blocks::put_16(log, body + wal::DIFF_AT, page_diff::as_bytes(d));
 }
@@ -172,7 +208,7 @@ pub fn write_lent_update(
 ) -> Written
     ensures { λ r. ⌜ Updates (now (log .entry)) w id (d .words) (now (nodes .entry)) held elided bucket r (now (log .exit)) ⌝ }
 {
-    let Writer::Open(at) = w else {
+    let Writer::Open(at, edition) = w else {
         return kept(w, Refusal::WriterNotOpen);
     };
     if page_diff::count(d) != held {
@@ -181,17 +217,18 @@ pub fn write_lent_update(
     if page_diff::is_reserved(d) {
         return kept(w, Refusal::DiffReserved);
     }
-    let size = wal::UPDATE_SIZE + 32 * held;
-    if !room_at(log.len(), at, size) {
+    let mark = wal::mark_size(edition);
+    let size = mark + (wal::UPDATE_BODY + 32 * held);
+    if !room_at(log.len(), at, size, mark) {
         return kept(w, Refusal::NoRoom);
     }
-    let body = at + wal::MARK_SIZE;
-    put_head(log, at, id, d);
+    let body = at + mark;
+    put_head(log, at, edition, id, d);
     put_nodes(log, body + wal::NODES_AT, nodes, held);
     put_tail(log, at + (size - TAIL_SIZE), elided, bucket);
     Written {
         outcome: Outcome::Done,
-        writer: Writer::Open(at + size),
+        writer: Writer::Open(at + size, edition),
     }
 }
 
@@ -207,7 +244,7 @@ pub fn write_page_update(
 ) -> Written
     ensures { λ r. ⌜ UpdatesPage (now (log .entry)) w id (d .words) (now (page .entry)) bucket r (now (log .exit)) ⌝ }
 {
-    let Writer::Open(at) = w else {
+    let Writer::Open(at, edition) = w else {
         return kept(w, Refusal::WriterNotOpen);
     };
     if page.len() != wal::PAGE_SIZE {
@@ -216,12 +253,13 @@ pub fn write_page_update(
     if page_diff::is_reserved(d) {
         return kept(w, Refusal::DiffReserved);
     }
-    let size = wal::UPDATE_SIZE + 32 * page_diff::count(d);
-    if !room_at(log.len(), at, size) {
+    let mark = wal::mark_size(edition);
+    let size = mark + (wal::UPDATE_BODY + 32 * page_diff::count(d));
+    if !room_at(log.len(), at, size, mark) {
         return kept(w, Refusal::NoRoom);
     }
-    let body = at + wal::MARK_SIZE;
-    put_head(log, at, id, d);
+    let body = at + mark;
+    put_head(log, at, edition, id, d);
     page_diff::put_page_nodes(log, body + wal::NODES_AT, d, page);
     put_tail(
         log,
@@ -231,7 +269,7 @@ pub fn write_page_update(
     );
     Written {
         outcome: Outcome::Done,
-        writer: Writer::Open(at + size),
+        writer: Writer::Open(at + size, edition),
     }
 }
 
@@ -240,21 +278,23 @@ pub fn write_page_update(
 pub fn finish(log: &mut [u8], w: Writer) -> FinishedAnswer
     ensures { λ r. ⌜ Finishes (now (log .entry)) w r (now (log .exit)) ⌝ }
 {
-    let Writer::Open(at) = w else {
+    let Writer::Open(at, edition) = w else {
         return FinishedAnswer {
             answer: Number::Refused(Refusal::WriterNotOpen),
             writer: w,
         };
     };
-    if !room_at(log.len(), at, 0) {
+    let mark = wal::mark_size(edition);
+    if !room_at(log.len(), at, 0, mark) {
         return FinishedAnswer {
             answer: Number::Refused(Refusal::NoRoom),
             writer: w,
         };
     }
-    let len = (at / wal::PAGE_SIZE + 1) * wal::PAGE_SIZE;
-    log[at] = wal::WAL_ENTRY_TAG_END;
-    blocks::put_zeros(log, at + 1, len - (at + 1));
+    let after = at + mark;
+    let len = (after + (wal::PAGE_SIZE - 1)) / wal::PAGE_SIZE * wal::PAGE_SIZE;
+    put_mark(log, at, edition, wal::WAL_ENTRY_TAG_END);
+    blocks::put_zeros(log, after, len - after);
     FinishedAnswer {
         answer: Number::Is(len as u64),
         writer: Writer::Finished(len),

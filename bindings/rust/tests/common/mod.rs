@@ -3,6 +3,27 @@
 
 use bitbox::*;
 
+/// A store's seed, no byte of which is like another.
+pub const SEED: Seed = [1, 2, 3, 5, 8, 13, 21, 34, 55, 89, 144, 233, 0xB2, 255, 4, 0];
+
+pub const EDITIONS: [Edition; 2] = [Edition::One, Edition::Two];
+
+/// The start of a log of this edition.
+pub fn start(edition: Edition, sync_seqn: u32) -> Start {
+    match edition {
+        Edition::One => Start::one(sync_seqn),
+        Edition::Two => Start::two(sync_seqn, SEED),
+    }
+}
+
+/// The bytes of a mark of this edition, and those of a start.
+pub fn sizes(edition: Edition) -> (usize, usize) {
+    match edition {
+        Edition::One => (1, 5),
+        Edition::Two => (2, 22),
+    }
+}
+
 /// An id that is told by a number.
 pub fn id(k: u8) -> PageId {
     let mut id = [k; 32];
@@ -55,9 +76,9 @@ pub fn leaves<T>(memory: &mut [u8], call: impl FnOnce(&mut [u8]) -> T) -> T {
 }
 
 /// A log of these clears, finished.
-pub fn clears(sync_seqn: u32, buckets: &[u64]) -> Vec<u8> {
+pub fn clears(start: Start, buckets: &[u64]) -> Vec<u8> {
     let mut memory = vec![0xEE; 4 * PAGE];
-    let mut writer = LogWriter::begin(&mut memory, sync_seqn).expect("room");
+    let mut writer = LogWriter::begin(&mut memory, start).expect("room");
     for &bucket in buckets {
         writer.write_clear(bucket).expect("room");
     }

@@ -1,9 +1,14 @@
 -- The call, in words. Assumes nothing.
 use mathlib.Core.Path.{ap, _∙_}
+use Rattle.recover.specs.Replay.{replayAnswer, replayImage}
+use Rattle.recover.specs.declared.Expected.{Expected}
 use Rattle.bitbox.specs.Words.{replayWords}
 use borrow.Author.Needs.{needs}
 use Rattle.bitbox.proofs.bitbox_replay.Statement.{statement}
 use Rattle.bitbox.proofs.bitbox_replay.Tie as tie
+
+expected-of-requires : tie.Need-expected-of-requires
+expected-of-requires c κs = search needs
 
 recover-requires : tie.Need-recover-requires
 recover-requires c κs = search needs
@@ -15,12 +20,16 @@ same-length : tie.Need-same-length
 same-length c = search needs
 
 returns : tie.Need-returns
-returns c = (
-  c .of-recovered .ensures
-      ∙ ap replayWords (c .before .before .before .recover .ensures .0),
-  c .before .before .before .recover .ensures .1,
-)
+returns c =
+    let ran = c .before .before .before in
+    let args = c .before .before .before .before .before .before .before .before .before .before .args in
+    let said = ran .before .before .expected-of .ensures in (
+      c .of-recovered .ensures
+          ∙ ap replayWords (ran .recover .ensures .0 ∙ ap (λ (want : Expected). replayAnswer (args .n) (args .image .now) (args .log .now) want (args .hashes .now)) said),
+      ran .recover .ensures .1 ∙ ap (λ (want : Expected). replayImage (args .n) (args .image .now) (args .log .now) want (args .hashes .now)) said,
+    )
 
 pub bitbox-replay-spec : {M : Type 1} → statement M
 bitbox-replay-spec =
-    tie.close (tie.spec recover-requires of-recovered-requires same-length returns)
+    tie.close
+    (tie.spec expected-of-requires recover-requires of-recovered-requires same-length returns)

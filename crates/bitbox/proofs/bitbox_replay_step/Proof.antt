@@ -1,9 +1,15 @@
 -- The call, in words. Assumes nothing.
-use mathlib.Core.Path.{refl, ap₂, _∙_}
+use mathlib.Core.Path.{ap, _∙_}
+use Rattle.answers.specs.Answers.{Answer}
+use Rattle.recover.specs.Replay.{Went, stepAnswer, stepImage}
+use Rattle.wal.specs.declared.Edition.{Edition}
 use Rattle.bitbox.specs.Words.{wentWords}
 use borrow.Author.Needs.{needs}
 use Rattle.bitbox.proofs.bitbox_replay_step.Statement.{statement}
 use Rattle.bitbox.proofs.bitbox_replay_step.Tie as tie
+
+edition-of-requires : tie.Need-edition-of-requires
+edition-of-requires c κs = search needs
 
 apply-entry-requires : tie.Need-apply-entry-requires
 apply-entry-requires c κs = search needs
@@ -15,12 +21,17 @@ same-length : tie.Need-same-length
 same-length c = search needs
 
 returns : tie.Need-returns
-returns c = (
-  c .of-stepped .ensures
-      ∙ ap₂ wentWords (c .before .before .before .apply-entry .ensures .0) refl,
-  c .before .before .before .apply-entry .ensures .1,
-)
+returns c =
+    let ran = c .before .before .before in
+    let said = ran .before .before .edition-of .ensures in
+    let args = c .before .before .before .before .before .before .before .before .args in (
+      c .of-stepped .ensures
+          ∙ ap (λ (a : Answer Went). wentWords a (args .at)) (ran .apply-entry .ensures .0)
+          ∙ ap (λ (e : Edition). wentWords (stepAnswer (args .n) (args .image .now) e (args .log .now) (args .at)) (args .at)) said,
+      ran .apply-entry .ensures .1 ∙ ap (λ (e : Edition). stepImage (args .n) (args .image .now) e (args .log .now) (args .at) (args .hash)) said,
+    )
 
 pub bitbox-replay-step-spec : {M : Type 1} → statement M
 bitbox-replay-step-spec =
-    tie.close (tie.spec apply-entry-requires of-stepped-requires same-length returns)
+    tie.close
+    (tie.spec edition-of-requires apply-entry-requires of-stepped-requires same-length returns)

@@ -44,10 +44,9 @@ use denote.Triple.Table.{entered, cited}
 use denote.Triple.Walked.{says, Stays, stay-none-slice, walkOf, goes-none-slice, Walks, ends-at, walked, walk-meets}
 use denote.Exit.{yes}
 use denote.Triple.Clauses.{Lasts, ensured, lasts}
-use Rattle.wal.specs.Log.{startSize}
 use Rattle.wal.specs.Reader.{startOf}
 use Rattle.wal_read.specs.Entry.{nextOf, Taken}
-use Rattle.wal_read.specs.Set.{givesAt, SetOn, Reads}
+use Rattle.wal_read.specs.Set.{firstAt, givesAt, SetOn, Reads}
 use Rattle.wal_read.specs.declared.WalBlobReader.{WalBlobReader}
 use Rattle.wal_read.specs.declared.WalEntry.{WalEntry}
 use Rattle.wal_read.proofs.Readers.{second-gives}
@@ -106,7 +105,7 @@ module _ {M : Type 1} (𝓤 : URA M) (H : Heap 𝓤) (A : Atoms 𝓤) (W : Given
 
   -- what is shown of the answer
   abbrev Said : WalEntry → Type 0
-  Said e = Taken (givesAt (startOf (now s)) (now s) (nextOf (givesAt (startOf (now s)) (now s) startSize) startSize)) (nextOf (givesAt (startOf (now s)) (now s) startSize) startSize) e
+  Said e = Taken (givesAt (startOf (now s)) (now s) (nextOf (givesAt (startOf (now s)) (now s) (firstAt (now s))) (firstAt (now s)))) (nextOf (givesAt (startOf (now s)) (now s) (firstAt (now s))) (firstAt (now s))) e
 
   -- the halves of the log's token
   abbrev qL : Share

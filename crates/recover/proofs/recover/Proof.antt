@@ -25,7 +25,7 @@ module _ (c : tie.After-check-replay) where
   abbrev hashes : List ℕ
   hashes = start .args .hashes .now
 
-  said : recoveredSaid (c .check-replay .result) ≡ replayAnswer (start .args .n) image log (start .args .sync) hashes
+  said : recoveredSaid (c .check-replay .result) ≡ replayAnswer (start .args .n) image log (start .args .want) hashes
   said = c .check-replay .ensures
 
   abbrev after : List ℕ
@@ -45,7 +45,7 @@ returns c =
 run-requires : tie.Need-run-requires
 run-requires c κs =
     let t = c .before .before .before in
-    applied-told (start t .args .n) (length (image t)) (log t) (start t .args .sync) (length (hashes t)) (sym (said t) ∙ ap recoveredSaid (c .before .enum-told .given .1))
+    applied-told (start t .args .n) (length (image t)) (log t) (start t .args .want) (length (hashes t)) (sym (said t) ∙ ap recoveredSaid (c .before .enum-told .given .1))
 
 same-length : tie.Need-same-length
 same-length c = search needs

@@ -2,7 +2,7 @@
 use mathlib.Core.Path.{_≡_, sym, ap, ap₂, _∙_}
 use mathlib.Core.Bool.{true}
 use mathlib.Core.List.{List, []}
-use Prim.Native.Nat.{ℕ, _*_, _<_, _^_}
+use Prim.Native.Nat.{ℕ, _*_}
 use native.Mathlib.Omega.{arith}
 use lib.ListN.{length}
 use Rattle.answers.specs.Answers.{outcomeSaid}
@@ -11,10 +11,11 @@ use Rattle.ht_file.specs.Places.{tagsFit, tagPages}
 use Rattle.ht_file.proofs.Laws.{table-fits}
 use Rattle.probe.specs.Path.{hitLimit}
 use Rattle.probe.specs.declared.Limit.{Limit}
+use Rattle.wal.specs.Run.{WideStart}
 use Rattle.sync.specs.Change.{memOf, stateOf}
 use Rattle.sync.specs.declared.SyncStart.{SyncStart}
 use Rattle.sync.proofs.StartLaws.{start-unfit, start-pages, start-marks, start-begin, begin-refused, begin-given, begun-left, begun-open}
-use Rattle.sync.proofs.Widths.{typed-number}
+use Rattle.sync.proofs.Widths.{typed-start}
 use borrow.Author.Needs.{needs}
 use Rattle.sync.proofs.begin_sync.Statement.{statement}
 use Rattle.sync.proofs.begin_sync.Tie as tie
@@ -39,8 +40,8 @@ module _ (c : tie.Start) where
   abbrev count : ℕ
   count = c .args .count
 
-  wide : s .«sync_seqn» < 2 ^ 32
-  wide = typed-number s _ (c .good .1 .1 .1 .1 .1 .0)
+  wide : WideStart (s .«log_start»)
+  wide = typed-start s _ (c .good .1 .1 .1 .1 .1 .0)
 
 -- the tags fit
 module _ (c : tie.After-enum-told) where
@@ -72,18 +73,18 @@ enum-known-fit c = search needs
 
 -- src/lib.rt:460:9
 returns : tie.Need-returns
-returns c = let o = c .before .before .before .before .before .before .before .before in let why = c .before .fit .given .0 .0 in begin-refused (s o .n) (tags o) (marks o) (log o) (pages o) (count o) (s o .«sync_seqn») (s o .writer) (wide o) (numberOf why) (start-unfit (s o .n) (tags o) (marks o) (log o) (pages o) (count o) (numberOf why) (sym (c .before .before .before .check-tags .ensures) ∙ ap outcomeSaid (c .before .fit .given .1)))
+returns c = let o = c .before .before .before .before .before .before .before .before in let why = c .before .fit .given .0 .0 in begin-refused (s o .n) (tags o) (marks o) (log o) (pages o) (count o) (s o .«log_start») (s o .writer) (wide o) (numberOf why) (start-unfit (s o .n) (tags o) (marks o) (log o) (pages o) (count o) (numberOf why) (sym (c .before .before .before .check-tags .ensures) ∙ ap outcomeSaid (c .before .fit .given .1)))
 
 enum-told : tie.Need-enum-told
 enum-told c = search needs
 
 -- src/lib.rt:463:9
 returns-2 : tie.Need-returns-2
-returns-2 c = let t = c .before in let o = start t in begin-refused (s o .n) (tags o) (marks o) (log o) (pages o) (count o) (s o .«sync_seqn») (s o .writer) (wide o) 2 (start-pages (s o .n) (tags o) (marks o) (log o) (pages o) (count o) (fits t) (λ e. c .if1 .taken (omega (arith, e))))
+returns-2 c = let t = c .before in let o = start t in begin-refused (s o .n) (tags o) (marks o) (log o) (pages o) (count o) (s o .«log_start») (s o .writer) (wide o) 2 (start-pages (s o .n) (tags o) (marks o) (log o) (pages o) (count o) (fits t) (λ e. c .if1 .taken (omega (arith, e))))
 
 -- src/lib.rt:466:9
 returns-3 : tie.Need-returns-3
-returns-3 c = let t = c .before .before in let o = start t in begin-refused (s o .n) (tags o) (marks o) (log o) (pages o) (count o) (s o .«sync_seqn») (s o .writer) (wide o) 2 (start-pages (s o .n) (tags o) (marks o) (log o) (pages o) (count o) (fits t) (λ e. c .if2 .taken (omega (arith, e))))
+returns-3 c = let t = c .before .before in let o = start t in begin-refused (s o .n) (tags o) (marks o) (log o) (pages o) (count o) (s o .«log_start») (s o .writer) (wide o) 2 (start-pages (s o .n) (tags o) (marks o) (log o) (pages o) (count o) (fits t) (λ e. c .if2 .taken (omega (arith, e))))
 
 -- src/lib.rt:468:23
 tag-pages-requires : tie.Need-tag-pages-requires
@@ -91,7 +92,7 @@ tag-pages-requires c κs = search needs
 
 -- src/lib.rt:469:9
 returns-4 : tie.Need-returns-4
-returns-4 c = let e = c .before .before in let t = e .before .before in let o = start t in begin-refused (s o .n) (tags o) (marks o) (log o) (pages o) (count o) (s o .«sync_seqn») (s o .writer) (wide o) 2 (start-marks (s o .n) (tags o) (marks o) (log o) (pages o) (count o) (fits t) (whole e) (λ q. c .if3 .taken (q ∙ sym (c .before .tag-pages .ensures))))
+returns-4 c = let e = c .before .before in let t = e .before .before in let o = start t in begin-refused (s o .n) (tags o) (marks o) (log o) (pages o) (count o) (s o .«log_start») (s o .writer) (wide o) 2 (start-marks (s o .n) (tags o) (marks o) (log o) (pages o) (count o) (fits t) (whole e) (λ q. c .if3 .taken (q ∙ sym (c .before .tag-pages .ensures))))
 
 -- src/lib.rt:471:9
 begin-requires : tie.Need-begin-requires
@@ -107,7 +108,7 @@ same-length c = search needs
 
 -- src/lib.rt:474:9
 returns-5 : tie.Need-returns-5
-returns-5 c = let u = c .before .before .before .before .before .before .before in let e = u .before .before in let t = e .before .before in let o = start t in let b = c .before .before .before .before .before .begin in let why = c .before .outcome .given .0 .0 in let h = sym (b .ensures .0) ∙ ap outcomeSaid (c .before .outcome .given .1) in let g = begin-refused (s o .n) (tags o) (marks o) (log o) (pages o) (count o) (s o .«sync_seqn») (s o .writer) (wide o) (numberOf why) (start-begin (s o .n) (tags o) (marks o) (log o) (pages o) (count o) (fits t) (whole e) (marked u) ∙ h) in (g .0, (ap (memOf (tags o) (marks o) []) (b .ensures .1 .1 ∙ begun-left (log o) (s o .«sync_seqn») (numberOf why) h) ∙ g .1 .0, g .1 .1))
+returns-5 c = let u = c .before .before .before .before .before .before .before .before in let e = u .before .before in let t = e .before .before in let o = start t in let b = c .before .before .before .before .before .begin in let why = c .before .outcome .given .0 .0 in let h = sym (b .ensures .0) ∙ ap outcomeSaid (c .before .outcome .given .1) in let g = begin-refused (s o .n) (tags o) (marks o) (log o) (pages o) (count o) (s o .«log_start») (s o .writer) (wide o) (numberOf why) (start-begin (s o .n) (tags o) (marks o) (log o) (pages o) (count o) (fits t) (whole e) (marked u) ∙ h) in (g .0, (ap (memOf (tags o) (marks o) []) (b .ensures .1 .1 ∙ begun-left (log o) (s o .«log_start») (numberOf why) h) ∙ g .1 .0, g .1 .1))
 
 enum-told-2 : tie.Need-enum-told-2
 enum-told-2 c = search needs
@@ -121,7 +122,7 @@ hit-limit-requires c κs = search needs
 
 -- src/lib.rt:481:19
 full-tags-requires : tie.Need-full-tags-requires
-full-tags-requires c κs = fits (c .before .before .before .before .before .before .before .before .before .before .before .before .before .before .before)
+full-tags-requires c κs = fits (c .before .before .before .before .before .before .before .before .before .before .before .before .before .before .before .before)
 
 -- src/lib.rt:446:1
 same-length-2 : tie.Need-same-length-2
@@ -133,7 +134,7 @@ same-length-3 c = search needs
 
 -- src/lib.rt:446:1
 returns-6 : tie.Need-returns-6
-returns-6 c = let u = c .before .before .before .before .before .before .before .before .before .before .before .before in let e = u .before .before in let t = e .before .before in let o = start t in let b = c .before .before .before .before .before .before .before .before .before .before .begin in let h = sym (b .ensures .0) ∙ ap outcomeSaid (c .before .before .before .before .before .before .enum-told2 .given .1) in begin-given (s o .n) (tags o) (marks o) (log o) (pages o) (count o) (s o .«sync_seqn») (s o .writer) (wide o) (stateOf (s o .n) (c .before .hit-limit .result) (b .result .writer) (c .full-tags .result)) (memOf (tags o) (c .before .before .before .before .zero-all .last .0) [] (b .last .0)) (start-begin (s o .n) (tags o) (marks o) (log o) (pages o) (count o) (fits t) (whole e) (marked u) ∙ h) (ap (λ (x : Limit). stateOf (s o .n) x (b .result .writer) (c .full-tags .result)) (c .before .hit-limit .ensures) ∙ ap₂ (stateOf (s o .n) hitLimit) (b .ensures .1 .0 ∙ begun-open (log o) (s o .«sync_seqn») h) (c .full-tags .ensures)) (ap₂ (λ (x y : List ℕ). memOf (tags o) x [] y) (c .before .before .before .before .zero-all .ensures) (b .ensures .1 .1))
+returns-6 c = let u = c .before .before .before .before .before .before .before .before .before .before .before .before .before in let e = u .before .before in let t = e .before .before in let o = start t in let b = c .before .before .before .before .before .before .before .before .before .before .begin in let h = sym (b .ensures .0) ∙ ap outcomeSaid (c .before .before .before .before .before .before .enum-told2 .given .1) in begin-given (s o .n) (tags o) (marks o) (log o) (pages o) (count o) (s o .«log_start») (s o .writer) (wide o) (stateOf (s o .n) (c .before .hit-limit .result) (b .result .writer) (c .full-tags .result)) (memOf (tags o) (c .before .before .before .before .zero-all .last .0) [] (b .last .0)) (start-begin (s o .n) (tags o) (marks o) (log o) (pages o) (count o) (fits t) (whole e) (marked u) ∙ h) (ap (λ (x : Limit). stateOf (s o .n) x (b .result .writer) (c .full-tags .result)) (c .before .hit-limit .ensures) ∙ ap₂ (stateOf (s o .n) hitLimit) (b .ensures .1 .0 ∙ begun-open (log o) (s o .«log_start») h) (c .full-tags .ensures)) (ap₂ (λ (x y : List ℕ). memOf (tags o) x [] y) (c .before .before .before .before .zero-all .ensures) (b .ensures .1 .1))
 
 pub begin-sync-spec : {M : Type 1} → statement M
 begin-sync-spec =

@@ -3,7 +3,7 @@ use Rattle.sync.proofs.Plans.{does-clears, does-updates, does-allocates
 use Rattle.sync.specs.Change.{memOf, cleared, updated, byBucket, afterDoes}
 use Rattle.sync.specs.InnerChange.{plannedSaid}
 use Rattle.wal_write.specs.Calls.{roomIn}
-use Rattle.wal.specs.Log.{updateSize}
+use Rattle.wal.specs.Log.{updateBody}
 use Rattle.probe.proofs.Allocating.{answer-below}
 use Rattle.probe.specs.Path.{allocating, allocateAnswer, allocatedSaid}
 use Rattle.page_diff.proofs.SlotLaws.{slots-few}
@@ -55,7 +55,7 @@ has-room-requires-2 : tie.Need-has-room-requires-2
 has-room-requires-2 c κs = search needs
 
 returns-2 : tie.Need-returns-2
-returns-2 c = let room = c .before in let told = room .before .before in let planned-at = told .before .before .before in let start = planned-at .before .before .before .before .before in let args = start .args in let st = args .st in let ch = args .c in let tags = args .tags .now in let cells = args .cells .now in let log = args .log .now in let m = memOf tags [] cells log in let b = told .before .planned3 .given .0 .0 in let d = sym (planned-at .plan .ensures) ∙ ap plannedSaid (told .before .planned3 .given .1) in let fits : roomIn (length log) (st .writer) (updateSize (countOf (ch .diff .words))) ≡ true = sym (room .has-room2 .ensures ∙ ap (λ (k : ℕ). roomIn (length log) (st .writer) (65 + 32 * k)) (room .before .count .ensures)) ∙ c .if2 .taken in let q = does-updates (st .n) tags cells ch b d in (sym (ap (afterDoes st m ch) d ∙ ap (λ (t : Bool). cond t (given (updated b)) (refused 13)) fits), (q .0, fits, q .1))
+returns-2 c = let room = c .before in let told = room .before .before in let planned-at = told .before .before .before in let start = planned-at .before .before .before .before .before in let args = start .args in let st = args .st in let ch = args .c in let tags = args .tags .now in let cells = args .cells .now in let log = args .log .now in let m = memOf tags [] cells log in let b = told .before .planned3 .given .0 .0 in let d = sym (planned-at .plan .ensures) ∙ ap plannedSaid (told .before .planned3 .given .1) in let fits : roomIn (length log) (st .writer) (updateBody (countOf (ch .diff .words))) ≡ true = sym (room .has-room2 .ensures ∙ ap (λ (k : ℕ). roomIn (length log) (st .writer) (64 + 32 * k)) (room .before .count .ensures)) ∙ c .if2 .taken in let q = does-updates (st .n) tags cells ch b d in (sym (ap (afterDoes st m ch) d ∙ ap (λ (t : Bool). cond t (given (updated b)) (refused 13)) fits), (q .0, fits, q .1))
 
 enum-told : tie.Need-enum-told
 enum-told c = search needs
@@ -88,16 +88,16 @@ returns-4 : tie.Need-returns-4
 returns-4 c = let room = c .before in let told = room .before in let planned-at = told .before .before .before in let start = planned-at .before .before .before .before .before in let args = start .args in let st = args .st in let ch = args .c in let tags = args .tags .now in let cells = args .cells .now in let log = args .log .now in let m = memOf tags [] cells log in let b = told .before .planned2 .given .0 .0 in let d = sym (planned-at .plan .ensures) ∙ ap plannedSaid (told .before .planned2 .given .1) in let full = sym (room .has-room .ensures) ∙ c .if1 .left in (sym (ap (afterDoes st m ch) d ∙ ap (λ (t : Bool). cond t (given (cleared b)) (refused 13)) full), tt)
 
 returns-5 : tie.Need-returns-5
-returns-5 c = let room = c .before in let told = room .before .before in let planned-at = told .before .before .before in let start = planned-at .before .before .before .before .before in let args = start .args in let st = args .st in let ch = args .c in let tags = args .tags .now in let cells = args .cells .now in let log = args .log .now in let m = memOf tags [] cells log in let b = told .before .planned3 .given .0 .0 in let d = sym (planned-at .plan .ensures) ∙ ap plannedSaid (told .before .planned3 .given .1) in let full : roomIn (length log) (st .writer) (updateSize (countOf (ch .diff .words))) ≡ false = sym (room .has-room2 .ensures ∙ ap (λ (k : ℕ). roomIn (length log) (st .writer) (65 + 32 * k)) (room .before .count .ensures)) ∙ c .if2 .left in (sym (ap (afterDoes st m ch) d ∙ ap (λ (t : Bool). cond t (given (updated b)) (refused 13)) full), tt)
+returns-5 c = let room = c .before in let told = room .before .before in let planned-at = told .before .before .before in let start = planned-at .before .before .before .before .before in let args = start .args in let st = args .st in let ch = args .c in let tags = args .tags .now in let cells = args .cells .now in let log = args .log .now in let m = memOf tags [] cells log in let b = told .before .planned3 .given .0 .0 in let d = sym (planned-at .plan .ensures) ∙ ap plannedSaid (told .before .planned3 .given .1) in let full : roomIn (length log) (st .writer) (updateBody (countOf (ch .diff .words))) ≡ false = sym (room .has-room2 .ensures ∙ ap (λ (k : ℕ). roomIn (length log) (st .writer) (64 + 32 * k)) (room .before .count .ensures)) ∙ c .if2 .left in (sym (ap (afterDoes st m ch) d ∙ ap (λ (t : Bool). cond t (given (updated b)) (refused 13)) full), tt)
 
 returns-6 : tie.Need-returns-6
-returns-6 c = let found = c .before .before .before in let room = found .before .before in let planned-at = room .before .before .before .before in let start = planned-at .before .before .before .before .before in let args = start .args in let st = args .st in let ch = args .c in let tags = args .tags .now in let cells = args .cells .now in let log = args .log .now in let m = memOf tags [] cells log in let b = c .before .found .given .0 .0 in let d = sym (planned-at .plan .ensures) ∙ ap plannedSaid (room .before .before .enum-told .given .1) in let fits : roomIn (length log) (st .writer) (updateSize (countOf (ch .diff .words))) ≡ true = sym (room .has-room3 .ensures ∙ ap (λ (k : ℕ). roomIn (length log) (st .writer) (65 + 32 * k)) (room .before .count2 .ensures)) ∙ found .before .if3 .taken in let a : allocateAnswer (st .limit) tags (st .n) (ch .hash) ≡ given b = sym (found .find-bucket .ensures) ∙ ap allocatedSaid (c .before .found .given .1) in (sym (ap (afterDoes st m ch) d ∙ ap (λ (t : Bool). cond t (byBucket (allocating (st .limit) tags (st .n) (ch .hash))) (refused 13)) fits ∙ ap byBucket (fitting start ∙ a)), (answer-below (st .limit) tags (st .n) (ch .hash) b a .0, fits, does-allocates (st .n) tags cells ch d))
+returns-6 c = let found = c .before .before .before in let room = found .before .before in let planned-at = room .before .before .before .before in let start = planned-at .before .before .before .before .before in let args = start .args in let st = args .st in let ch = args .c in let tags = args .tags .now in let cells = args .cells .now in let log = args .log .now in let m = memOf tags [] cells log in let b = c .before .found .given .0 .0 in let d = sym (planned-at .plan .ensures) ∙ ap plannedSaid (room .before .before .enum-told .given .1) in let fits : roomIn (length log) (st .writer) (updateBody (countOf (ch .diff .words))) ≡ true = sym (room .has-room3 .ensures ∙ ap (λ (k : ℕ). roomIn (length log) (st .writer) (64 + 32 * k)) (room .before .count2 .ensures)) ∙ found .before .if3 .taken in let a : allocateAnswer (st .limit) tags (st .n) (ch .hash) ≡ given b = sym (found .find-bucket .ensures) ∙ ap allocatedSaid (c .before .found .given .1) in (sym (ap (afterDoes st m ch) d ∙ ap (λ (t : Bool). cond t (byBucket (allocating (st .limit) tags (st .n) (ch .hash))) (refused 13)) fits ∙ ap byBucket (fitting start ∙ a)), (answer-below (st .limit) tags (st .n) (ch .hash) b a .0, fits, does-allocates (st .n) tags cells ch d))
 
 returns-7 : tie.Need-returns-7
-returns-7 c = let found = c .before .before .before in let room = found .before .before in let planned-at = room .before .before .before .before in let start = planned-at .before .before .before .before .before in let args = start .args in let st = args .st in let ch = args .c in let tags = args .tags .now in let cells = args .cells .now in let log = args .log .now in let m = memOf tags [] cells log in let k = numberOf (c .before .found2 .given .0 .0) in let d = sym (planned-at .plan .ensures) ∙ ap plannedSaid (room .before .before .enum-told .given .1) in let fits : roomIn (length log) (st .writer) (updateSize (countOf (ch .diff .words))) ≡ true = sym (room .has-room3 .ensures ∙ ap (λ (x : ℕ). roomIn (length log) (st .writer) (65 + 32 * x)) (room .before .count2 .ensures)) ∙ found .before .if3 .taken in let a : allocateAnswer (st .limit) tags (st .n) (ch .hash) ≡ refused k = sym (found .find-bucket .ensures) ∙ ap allocatedSaid (c .before .found2 .given .1) in (sym (ap (afterDoes st m ch) d ∙ ap (λ (t : Bool). cond t (byBucket (allocating (st .limit) tags (st .n) (ch .hash))) (refused 13)) fits ∙ ap byBucket (fitting start ∙ a)), tt)
+returns-7 c = let found = c .before .before .before in let room = found .before .before in let planned-at = room .before .before .before .before in let start = planned-at .before .before .before .before .before in let args = start .args in let st = args .st in let ch = args .c in let tags = args .tags .now in let cells = args .cells .now in let log = args .log .now in let m = memOf tags [] cells log in let k = numberOf (c .before .found2 .given .0 .0) in let d = sym (planned-at .plan .ensures) ∙ ap plannedSaid (room .before .before .enum-told .given .1) in let fits : roomIn (length log) (st .writer) (updateBody (countOf (ch .diff .words))) ≡ true = sym (room .has-room3 .ensures ∙ ap (λ (x : ℕ). roomIn (length log) (st .writer) (64 + 32 * x)) (room .before .count2 .ensures)) ∙ found .before .if3 .taken in let a : allocateAnswer (st .limit) tags (st .n) (ch .hash) ≡ refused k = sym (found .find-bucket .ensures) ∙ ap allocatedSaid (c .before .found2 .given .1) in (sym (ap (afterDoes st m ch) d ∙ ap (λ (t : Bool). cond t (byBucket (allocating (st .limit) tags (st .n) (ch .hash))) (refused 13)) fits ∙ ap byBucket (fitting start ∙ a)), tt)
 
 returns-8 : tie.Need-returns-8
-returns-8 c = let room = c .before in let planned-at = room .before .before .before .before in let start = planned-at .before .before .before .before .before in let args = start .args in let st = args .st in let ch = args .c in let tags = args .tags .now in let cells = args .cells .now in let log = args .log .now in let m = memOf tags [] cells log in let d = sym (planned-at .plan .ensures) ∙ ap plannedSaid (room .before .before .enum-told .given .1) in let full : roomIn (length log) (st .writer) (updateSize (countOf (ch .diff .words))) ≡ false = sym (room .has-room3 .ensures ∙ ap (λ (k : ℕ). roomIn (length log) (st .writer) (65 + 32 * k)) (room .before .count2 .ensures)) ∙ c .if3 .left in (sym (ap (afterDoes st m ch) d ∙ ap (λ (t : Bool). cond t (byBucket (allocating (st .limit) tags (st .n) (ch .hash))) (refused 13)) full), tt)
+returns-8 c = let room = c .before in let planned-at = room .before .before .before .before in let start = planned-at .before .before .before .before .before in let args = start .args in let st = args .st in let ch = args .c in let tags = args .tags .now in let cells = args .cells .now in let log = args .log .now in let m = memOf tags [] cells log in let d = sym (planned-at .plan .ensures) ∙ ap plannedSaid (room .before .before .enum-told .given .1) in let full : roomIn (length log) (st .writer) (updateBody (countOf (ch .diff .words))) ≡ false = sym (room .has-room3 .ensures ∙ ap (λ (k : ℕ). roomIn (length log) (st .writer) (64 + 32 * k)) (room .before .count2 .ensures)) ∙ c .if3 .left in (sym (ap (afterDoes st m ch) d ∙ ap (λ (t : Bool). cond t (byBucket (allocating (st .limit) tags (st .n) (ch .hash))) (refused 13)) full), tt)
 
 pub look-ahead-spec : {M : Type 1} → statement M
 look-ahead-spec =

@@ -27,6 +27,9 @@ mix-requires-2 c κs = search needs
 no-count-requires : tie.Need-no-count-requires Inv-loop μ-loop
 no-count-requires c κs = search needs
 
+first-at-requires : tie.Need-first-at-requires Inv-loop μ-loop
+first-at-requires c κs = search needs
+
 stands-requires : tie.Need-stands-requires Inv-loop μ-loop
 stands-requires c κs = search needs
 
@@ -86,6 +89,7 @@ walk-spec =
     slice-aggregate-mix-2
     mix-requires-2
     no-count-requires
+    first-at-requires
     stands-requires
     loop-holds
     slice-aggregate-entry

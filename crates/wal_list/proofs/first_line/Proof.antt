@@ -4,9 +4,9 @@ use Prim.Native.Nat.{ℕ}
 use native.Mathlib.Omega.{arith}
 use Rattle.answers.specs.Answers.{refused, given, numberSaid}
 use Rattle.answers.specs.Refusals.{numberOf}
-use Rattle.wal.specs.Reader.{startOf}
+use Rattle.wal.specs.Reader.{editionAt, startOf}
 use Rattle.wal_list.specs.Lines.{ascii, startLine, refusedLine}
-use Rattle.wal_list.specs.Shown.{started, firstShown}
+use Rattle.wal_list.specs.Shown.{more, started, firstShown}
 use Rattle.wal_list.specs.InnerShown.{refusalOf}
 use Rattle.wal_list.proofs.ShownLaws.{first-long, first-none, first-start, filled-last, filled-more}
 use borrow.Author.Needs.{needs}
@@ -77,7 +77,7 @@ returns-3 c =
     let no : numberSaid (found .set .result) ≡ refused (numberOf (told .enum-told .given .0 .0)) = ap numberSaid (told .enum-told .given .1) in
     let same : number ≡ numberOf (told .enum-told .given .0 .0) = put .before .refusal .ensures ∙ ap refusalOf no in
     let stops : startOf log ≡ refused number = sym (found .set .ensures) ∙ no ∙ sym (ap refused same) in
-    filled-last (start .args .line .now) (put .put-line2 .last .0) (firstShown log) (refusedLine 0 number) (put .put-line2 .result) (put .put-line2 .ensures) (first-start log (found .before .before .if1 .left) (found .before .if2 .left) ∙ ap started stops)
+    filled-last (start .args .line .now) (put .put-line2 .last .0) (firstShown log) (refusedLine 0 number) (put .put-line2 .result) (put .put-line2 .ensures) (first-start log (found .before .before .if1 .left) (found .before .if2 .left) ∙ ap (started (editionAt log)) stops)
 
 slice-aggregate-put-line-3 : tie.Need-slice-aggregate-put-line-3
 slice-aggregate-put-line-3 c = search needs
@@ -85,19 +85,22 @@ slice-aggregate-put-line-3 c = search needs
 put-line-requires-3 : tie.Need-put-line-requires-3
 put-line-requires-3 c κs = search needs
 
+first-at-requires : tie.Need-first-at-requires
+first-at-requires c κs = search needs
+
 same-length-4 : tie.Need-same-length-4
 same-length-4 c = search needs
 
 returns-4 : tie.Need-returns-4
 returns-4 c =
-    let put = c .before .before in
+    let put = c .before .before .before in
     let told = put .before .before .before .before in
     let found = told .before .before in
     let start = found .before .before .before .before .before in
     let log = start .args .log .now in
     let sync : ℕ = told .start .given .0 .0 in
     let starts : startOf log ≡ given sync = sym (found .set .ensures) ∙ ap numberSaid (told .start .given .1) in
-    filled-more (start .args .line .now) (put .put-line3 .last .0) (firstShown log) (startLine sync) (put .put-line3 .result) (put .put-line3 .ensures) 5 (first-start log (found .before .before .if1 .left) (found .before .if2 .left) ∙ ap started starts)
+    filled-more (start .args .line .now) (put .put-line3 .last .0) (firstShown log) (startLine sync) (put .put-line3 .result) (put .put-line3 .ensures) (c .first-at .result) (first-start log (found .before .before .if1 .left) (found .before .if2 .left) ∙ ap (started (editionAt log)) starts ∙ sym (ap (more (startLine sync)) (c .first-at .ensures)))
 
 pub first-line-spec : {M : Type 1} → statement M
 first-line-spec =
@@ -121,5 +124,6 @@ first-line-spec =
     returns-3
     slice-aggregate-put-line-3
     put-line-requires-3
+    first-at-requires
     same-length-4
     returns-4)

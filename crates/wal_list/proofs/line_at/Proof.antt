@@ -6,8 +6,9 @@ use Rattle.answers.specs.Answers.{given}
 use Rattle.answers.specs.Refusals.{numberOf}
 use Rattle.blocks.specs.Blocks.{put}
 use Rattle.wal.specs.Log.{clear}
-use Rattle.wal.specs.Reader.{next, ended, stopped, nextAt}
-use Rattle.wal_read.specs.Head.{headSaid}
+use Rattle.wal.specs.Reader.{Next, next, ended, stopped, editionAt, nextAt}
+use Rattle.wal.specs.declared.Edition.{Edition}
+use Rattle.wal_read.specs.Head.{headSaid, headOf}
 use Rattle.wal_read.proofs.ReadLaws.{head-clear, head-update, head-end, head-stop}
 use Rattle.wal_list.specs.Lines.{ascii, decimal, entryLine, endLine, refusedLine}
 use Rattle.wal_list.specs.Shown.{Shown, on, over, shownAt, textOf, saidOf, lineSaid}
@@ -38,8 +39,21 @@ returns-2 c =
     with-room l (first .first-line .last .1 .0) s (lineSaid (first .first-line .result)) (first .before .before .before .if1 .left)
     (first .first-line .ensures .0 ∙ ap (λ (x : Shown). given (saidOf x)) same, first .first-line .ensures .1 ∙ ap (λ (x : Shown). put l 0 (textOf x)) same)
 
+edition-of-requires : tie.Need-edition-of-requires
+edition-of-requires c κs = search needs
+
 head-at-requires : tie.Need-head-at-requires
 head-at-requires c κs = search needs
+
+-- the head that was read is the one of the log's own edition
+module _ (c : tie.After-head-at) where
+  abbrev stands : Next
+  stands = let args = c .before .before .before .before .before .before .args in nextAt (editionAt (args .log .now)) (args .log .now) (args .at)
+
+  seen : headSaid (c .head-at .result) ≡ headOf stands
+  seen =
+      let args = c .before .before .before .before .before .before .args in
+      c .head-at .ensures ∙ ap (λ (ed : Edition). headOf (nextAt ed (args .log .now) (args .at))) (c .before .edition-of .ensures)
 
 enum-known-head : tie.Need-enum-known-head
 enum-known-head c = search needs
@@ -64,13 +78,13 @@ returns-3 c =
     let put = c .before .before in
     let told = put .before .before .before .before .before in
     let found = told .before .before in
-    let args = found .before .before .before .before .before .args in
+    let args = found .before .before .before .before .before .before .args in
     let s : Shown = shownAt (args .log .now) (args .at) in
     let number : ℕ = put .before .number-of .result in
-    let said = sym (ap headSaid (told .head .given .1)) ∙ found .head-at .ensures in
-    let here : nextAt (args .log .now) (args .at) ≡ stopped number = head-stop (nextAt (args .log .now) (args .at)) (numberOf (told .head .given .0 .0)) said ∙ sym (ap stopped (put .before .number-of .ensures)) in
-    with-room (args .line .now) (put .put-line .last .0) s (given (over (put .put-line .result))) (found .before .before .if1 .left)
-    (filled-last (args .line .now) (put .put-line .last .0) s (refusedLine (args .at) number) (put .put-line .result) (put .put-line .ensures) (shown-next (args .log .now) (args .at) (stopped number) (found .before .if2 .left) here))
+    let said = sym (ap headSaid (told .head .given .1)) ∙ seen found in
+    let here : stands found ≡ stopped number = head-stop (stands found) (numberOf (told .head .given .0 .0)) said ∙ sym (ap stopped (put .before .number-of .ensures)) in
+    with-room (args .line .now) (put .put-line .last .0) s (given (over (put .put-line .result))) (found .before .before .before .if1 .left)
+    (filled-last (args .line .now) (put .put-line .last .0) s (refusedLine (args .at) number) (put .put-line .result) (put .put-line .ensures) (shown-next (args .log .now) (args .at) (stopped number) (found .before .before .if2 .left) here))
 
 enum-known-head-2 : tie.Need-enum-known-head-2
 enum-known-head-2 c = search needs
@@ -89,14 +103,14 @@ returns-4 c =
     let put = c .before .before in
     let told = put .before .before .before .before in
     let found = told .before .before .before in
-    let args = found .before .before .before .before .before .args in
+    let args = found .before .before .before .before .before .before .args in
     let s : Shown = shownAt (args .log .now) (args .at) in
     let bucket : ℕ = told .head2 .given .0 .0 in
     let after : ℕ = told .head2 .given .0 .1 .0 in
-    let said = sym (ap headSaid (told .head2 .given .1)) ∙ found .head-at .ensures in
-    let here : nextAt (args .log .now) (args .at) ≡ next (clear bucket) after = head-clear (nextAt (args .log .now) (args .at)) bucket after said in
-    with-room (args .line .now) (put .put-line2 .last .0) s (given (on (put .put-line2 .result) after)) (found .before .before .if1 .left)
-    (filled-more (args .line .now) (put .put-line2 .last .0) s (entryLine (args .at) (clear bucket)) (put .put-line2 .result) (put .put-line2 .ensures) after (shown-next (args .log .now) (args .at) (next (clear bucket) after) (found .before .if2 .left) here))
+    let said = sym (ap headSaid (told .head2 .given .1)) ∙ seen found in
+    let here : stands found ≡ next (clear bucket) after = head-clear (stands found) bucket after said in
+    with-room (args .line .now) (put .put-line2 .last .0) s (given (on (put .put-line2 .result) after)) (found .before .before .before .if1 .left)
+    (filled-more (args .line .now) (put .put-line2 .last .0) s (entryLine (args .at) (clear bucket)) (put .put-line2 .result) (put .put-line2 .ensures) after (shown-next (args .log .now) (args .at) (next (clear bucket) after) (found .before .before .if2 .left) here))
 
 enum-known-head-3 : tie.Need-enum-known-head-3
 enum-known-head-3 c = search needs
@@ -111,12 +125,12 @@ returns-5 : tie.Need-returns-5
 returns-5 c =
     let put = c .before .before in
     let found = put .before .before .before .before .before in
-    let args = found .before .before .before .before .before .args in
+    let args = found .before .before .before .before .before .before .args in
     let s : Shown = shownAt (args .log .now) (args .at) in
     let ends = only-end (found .head-at .result) (put .before .before .before .before .match .keys2) (put .before .before .before .match2 .keys2) (put .before .before .match3 .keys2) in
-    let here : nextAt (args .log .now) (args .at) ≡ ended = head-end (nextAt (args .log .now) (args .at)) (sym (ap headSaid ends) ∙ found .head-at .ensures) in
-    with-room (args .line .now) (put .put-end .last .0) s (given (over (put .put-end .result))) (found .before .before .if1 .left)
-    (filled-last (args .line .now) (put .put-end .last .0) s (endLine (args .at)) (put .put-end .result) (put .put-end .ensures) (shown-next (args .log .now) (args .at) ended (found .before .if2 .left) here))
+    let here : stands found ≡ ended = head-end (stands found) (sym (ap headSaid ends) ∙ seen found) in
+    with-room (args .line .now) (put .put-end .last .0) s (given (over (put .put-end .result))) (found .before .before .before .if1 .left)
+    (filled-last (args .line .now) (put .put-end .last .0) s (endLine (args .at)) (put .put-end .result) (put .put-end .ensures) (shown-next (args .log .now) (args .at) ended (found .before .before .if2 .left) here))
 
 put-update-requires : tie.Need-put-update-requires
 put-update-requires c κs = search needs
@@ -129,14 +143,14 @@ returns-6 c =
     let put = c .before .before in
     let told = put .before .before .before in
     let found = told .before .before .before .before in
-    let args = found .before .before .before .before .before .args in
+    let args = found .before .before .before .before .before .before .args in
     let s : Shown = shownAt (args .log .now) (args .at) in
     let bucket : ℕ = told .head3 .given .0 .0 in
     let count : ℕ = told .head3 .given .0 .1 .0 in
     let after : ℕ = told .head3 .given .0 .1 .1 .0 in
-    let there = head-update (args .log .now) (args .at) bucket count after (sym (ap headSaid (told .head3 .given .1)) ∙ found .head-at .ensures) in
-    with-room (args .line .now) (put .put-update .last .0) s (given (on (put .put-update .result) after)) (found .before .before .if1 .left)
-    (filled-more (args .line .now) (put .put-update .last .0) s (decimal (args .at) ++ ascii " update " ++ decimal bucket ++ ascii " " ++ decimal count ++ ascii "\n") (put .put-update .result) (put .put-update .ensures) after (shown-update (args .log .now) (args .at) bucket count after (found .before .if2 .left) there))
+    let there = head-update (editionAt (args .log .now)) (args .log .now) (args .at) bucket count after (sym (ap headSaid (told .head3 .given .1)) ∙ seen found) in
+    with-room (args .line .now) (put .put-update .last .0) s (given (on (put .put-update .result) after)) (found .before .before .before .if1 .left)
+    (filled-more (args .line .now) (put .put-update .last .0) s (decimal (args .at) ++ ascii " update " ++ decimal bucket ++ ascii " " ++ decimal count ++ ascii "\n") (put .put-update .result) (put .put-update .ensures) after (shown-update (args .log .now) (args .at) bucket count after (found .before .before .if2 .left) there))
 
 pub line-at-spec : {M : Type 1} → statement M
 line-at-spec =
@@ -146,6 +160,7 @@ line-at-spec =
     first-line-requires
     same-length
     returns-2
+    edition-of-requires
     head-at-requires
     enum-known-head
     slice-aggregate-put-line

@@ -2,6 +2,8 @@
 use mathlib.Core.Path.{sym, ap, subst}
 use Rattle.answers.specs.Answers.{numberSaid}
 use Rattle.answers.specs.declared.Number.{Number}
+use Rattle.wal.specs.Reader.{nextAt}
+use Rattle.wal.specs.declared.Edition.{Edition}
 use Rattle.wal_read.specs.Entry.{Taken}
 use Rattle.wal_read.specs.Set.{givesAt}
 use Rattle.wal_read.proofs.Answered.{bare-stop}
@@ -11,6 +13,9 @@ use Rattle.wal_read.proofs.entry_set.Tie as tie
 
 enum-told : tie.Need-enum-told
 enum-told c = search needs
+
+edition-of-requires : tie.Need-edition-of-requires
+edition-of-requires c κs = search needs
 
 entry-at-requires : tie.Need-entry-at-requires
 entry-at-requires c κs = search needs
@@ -23,8 +28,9 @@ bare-requires c κs = search needs
 
 returns : tie.Need-returns
 returns c =
-    let start = c .before .before .before .before in
-    subst (λ (n : Number). Taken (givesAt (numberSaid n) (start .args .log .now) (start .args .at)) (start .args .at) (c .entry-at .result)) (sym (c .before .enum-told .given .1)) (c .entry-at .ensures)
+    let start = c .before .before .before .before .before in
+    subst (λ (n : Number). Taken (givesAt (numberSaid n) (start .args .log .now) (start .args .at)) (start .args .at) (c .entry-at .result)) (sym (c .before .before .enum-told .given .1))
+    (subst (λ (ed : Edition). Taken (nextAt ed (start .args .log .now) (start .args .at)) (start .args .at) (c .entry-at .result)) (c .before .edition-of .ensures) (c .entry-at .ensures))
 
 returns-2 : tie.Need-returns-2
 returns-2 c =
@@ -36,4 +42,4 @@ returns-2 c =
 pub entry-set-spec : {M : Type 1} → statement M
 entry-set-spec =
     tie.close
-    (tie.spec enum-told entry-at-requires enum-known-start bare-requires returns returns-2)
+    (tie.spec enum-told edition-of-requires entry-at-requires enum-known-start bare-requires returns returns-2)

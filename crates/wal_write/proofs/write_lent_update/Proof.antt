@@ -1,6 +1,6 @@
 -- Each test answers as the definition does; with all passed the record is put part by part. Assumes nothing.
 use Prim.Native.Nat.{ℕ, _+_, _-_, _*_, _≤_}
-use mathlib.Core.Path.{_≡_, refl, sym, ap, _∙_}
+use mathlib.Core.Path.{_≡_, sym, ap, _∙_}
 use mathlib.Core.Bool.{true, false, true≢false}
 use mathlib.Core.List.{List, _++_}
 use native.Mathlib.Omega.{arith}
@@ -14,10 +14,12 @@ use Rattle.answers.specs.Answers.{Answer, given, refused, accepted, outcomeSaid
 use Rattle.blocks.specs.Blocks.{bytesOf, put, flat}
 use Rattle.page_diff.specs.Diff.{countOf, reserved}
 use Rattle.page_diff.proofs.Walk.{plain-count}
-use Rattle.wal.specs.Log.{update, recordOf}
+use Rattle.wal.specs.Log.{update, markSize, recordOf, updateSize}
 use Rattle.wal.specs.Writer.{openAt, capacity, updateAnswer}
 use Rattle.wal.specs.Run.{Wide}
+use Rattle.wal.specs.declared.Edition.{Edition}
 use Rattle.wal.specs.declared.Writer.{Writer}
+use Rattle.wal.proofs.Records.{mark-small}
 use Rattle.wal_write.specs.Calls.{Updates}
 use Rattle.wal_write.specs.declared.Written.{Written}
 use Rattle.wal_write.proofs.Bytes.{put-update}
@@ -42,8 +44,11 @@ module _ (c : tie.Start) where
   abbrev answer : Answer (Unit {0})
   answer = updateAnswer log w ws held
 
-  abbrev bytes : List ℕ
-  bytes = recordOf (update (c .args .id) ws (take held (c .args .nodes .now)) (c .args .elided) (c .args .bucket))
+  abbrev size : Edition → ℕ
+  size ed = updateSize ed held
+
+  abbrev bytes : Edition → List ℕ
+  bytes ed = recordOf ed (update (c .args .id) ws (take held (c .args .nodes .now)) (c .args .elided) (c .args .bucket))
 
   -- the widths that the types give
   wide : Wide (c .args .id) ws (c .args .elided) (c .args .bucket)
@@ -59,7 +64,7 @@ module _ (c : tie.Start) where
   -- a refused call
   refused-call : (n : ℕ) (r : Written) → answer ≡ refused n → outcomeSaid (r .outcome) ≡ refused n → r .writer ≡ w → Updates log w (c .args .id) ws (c .args .nodes .now) held (c .args .elided) (c .args .bucket) r log
   refused-call n r e k s =
-      let left = record-refused answer log w (65 + 32 * held) bytes n (outcomeSaid (r .outcome)) (r .writer) e k s in
+      let left = record-refused answer log w size bytes n (outcomeSaid (r .outcome)) (r .writer) e k s in
       (left .0, left .1, wide, λ ok. absurd (true≢false (sym ok ∙ ap accepted e)))
 
 -- an open writer
@@ -70,7 +75,10 @@ module _ (c : tie.After-known-told) where
   abbrev at : ℕ
   at = c .before .w .given .0 .0
 
-  opened : w start ≡ openAt at
+  abbrev ed : Edition
+  ed = c .before .w .given .0 .1 .0
+
+  opened : w start ≡ openAt ed at
   opened = c .before .w .given .1
 
 -- as many nodes as the diff marks
@@ -92,16 +100,30 @@ module _ (c : tie.Else2) where
   few : held (start open-at) ≤ 126
   few = let k = counted (c .before .before) in omega (arith, k, plain-count (ws (start open-at)) plain)
 
+-- the test of room, of the mark's size that the definition has
+module _ (c : tie.After-room-at) where
+  abbrev asked-at : tie.After-known-told
+  asked-at = open-at (c .before .before)
+
+  sized : c .before .mark-size .result ≡ markSize (ed asked-at)
+  sized = c .before .mark-size .ensures
+
+  room : c .room-at .result ≡ leb (at asked-at + size (start asked-at) (ed asked-at) + markSize (ed asked-at)) (capacity (log (start asked-at)))
+  room = c .room-at .ensures ∙ ap (λ (n : ℕ). leb (at asked-at + (n + (64 + 32 * held (start asked-at))) + n) (capacity (log (start asked-at)))) sized
+
 -- room
 module _ (c : tie.Else3) where
   abbrev opens : tie.After-known-told
-  opens = open-at (c .before .before)
+  opens = asked-at (c .before)
 
-  roomy : leb (at opens + (65 + 32 * held (start opens)) + 1) (capacity (log (start opens))) ≡ true
-  roomy = sym (c .before .room-at .ensures) ∙ not-false (c .before .room-at .result) (c .if3 .left)
+  abbrev m : ℕ
+  m = c .before .before .mark-size .result
 
-  fits : at opens + (65 + 32 * held (start opens)) ≤ length (log (start opens))
-  fits = omega (arith, leb-true (at opens + (65 + 32 * held (start opens)) + 1) (capacity (log (start opens))) roomy)
+  roomy : leb (at opens + size (start opens) (ed opens) + markSize (ed opens)) (capacity (log (start opens))) ≡ true
+  roomy = sym (room (c .before)) ∙ not-false (c .before .room-at .result) (c .if3 .left)
+
+  fits : at opens + (m + (64 + 32 * held (start opens))) ≤ length (log (start opens))
+  fits = omega (arith, leb-true (at opens + size (start opens) (ed opens) + markSize (ed opens)) (capacity (log (start opens))) roomy, sized (c .before))
 
 enum-known-w : tie.Need-enum-known-w
 enum-known-w c = search needs
@@ -113,7 +135,7 @@ returns : tie.Need-returns
 returns c =
     let s = c .before .before .before in
     refused-call s 12 (c .kept .result)
-    (update-tests (log s) (w s) (ws s) (held s) ∙ not-open (log s) (w s) (eqb (held s) (countOf (ws s))) (reserved (ws s)) (65 + 32 * held s) (given tt) (c .before .match .keys2)) (c .kept .ensures .0) (c .kept .ensures .1)
+    (update-tests (log s) (w s) (ws s) (held s) ∙ not-open (log s) (w s) (eqb (held s) (countOf (ws s))) (reserved (ws s)) (size s) (given tt) (c .before .match .keys2)) (c .kept .ensures .0) (c .kept .ensures .1)
 
 count-requires : tie.Need-count-requires
 count-requires c κs = search needs
@@ -128,7 +150,7 @@ returns-2 c =
     let s = start k in
     refused-call s 2 (c .kept2 .result)
     (update-tests (log s) (w s) (ws s) (held s)
-    ∙ unfit (log s) (w s) (eqb (held s) (countOf (ws s))) (reserved (ws s)) (65 + 32 * held s) (given tt) (at k) (opened k) (ne-eqb (held s) (countOf (ws s)) (λ q. c .before .if1 .taken (asked .count .ensures ∙ sym q)))) (c .kept2 .ensures .0) (c .kept2 .ensures .1 ∙ sym (opened k))
+    ∙ unfit (log s) (w s) (eqb (held s) (countOf (ws s))) (reserved (ws s)) (size s) (given tt) (ed k) (at k) (opened k) (ne-eqb (held s) (countOf (ws s)) (λ q. c .before .if1 .taken (asked .count .ensures ∙ sym q)))) (c .kept2 .ensures .0) (c .kept2 .ensures .1 ∙ sym (opened k))
 
 is-reserved-requires : tie.Need-is-reserved-requires
 is-reserved-requires c κs = search needs
@@ -144,13 +166,19 @@ returns-3 c =
     let s = start k in
     refused-call s 4 (c .kept3 .result)
     (update-tests (log s) (w s) (ws s) (held s)
-    ∙ reserved-bit (log s) (w s) (eqb (held s) (countOf (ws s))) (reserved (ws s)) (65 + 32 * held s) (given tt) (at k) (opened k) (fit past) (sym (asked .is-reserved .ensures) ∙ c .before .if2 .taken)) (c .kept3 .ensures .0) (c .kept3 .ensures .1 ∙ sym (opened k))
+    ∙ reserved-bit (log s) (w s) (eqb (held s) (countOf (ws s))) (reserved (ws s)) (size s) (given tt) (ed k) (at k) (opened k) (fit past) (sym (asked .is-reserved .ensures) ∙ c .before .if2 .taken)) (c .kept3 .ensures .0) (c .kept3 .ensures .1 ∙ sym (opened k))
+
+mark-size-requires : tie.Need-mark-size-requires
+mark-size-requires c κs = search needs
 
 mul-size : tie.Need-mul-size
-mul-size c = omega (arith, few c)
+mul-size c = omega (arith, few (c .before))
 
 add-size : tie.Need-add-size
-add-size c = omega (arith, few c)
+add-size c = omega (arith, few (c .before))
+
+add-size-2 : tie.Need-add-size-2
+add-size-2 c = omega (arith, few (c .before), c .mark-size .ensures, mark-small (ed (open-at (c .before))))
 
 room-at-requires : tie.Need-room-at-requires
 room-at-requires c κs = search needs
@@ -161,18 +189,18 @@ kept-requires-4 c κs = search needs
 returns-4 : tie.Need-returns-4
 returns-4 c =
     let asked = c .before .before in
-    let past = asked .before in
+    let past = asked .before .before in
     let k = open-at past in
     let s = start k in
     refused-call s 13 (c .kept4 .result)
     (update-tests (log s) (w s) (ws s) (held s)
-    ∙ no-room (log s) (w s) (eqb (held s) (countOf (ws s))) (reserved (ws s)) (65 + 32 * held s) (given tt) (at k) (opened k) (fit (past .before .before)) (plain past) (sym (asked .room-at .ensures) ∙ not-true (asked .room-at .result) (c .before .if3 .taken))) (c .kept4 .ensures .0) (c .kept4 .ensures .1 ∙ sym (opened k))
+    ∙ no-room (log s) (w s) (eqb (held s) (countOf (ws s))) (reserved (ws s)) (size s) (given tt) (ed k) (at k) (opened k) (fit (past .before .before)) (plain past) (sym (room asked) ∙ not-true (asked .room-at .result) (c .before .if3 .taken))) (c .kept4 .ensures .0) (c .kept4 .ensures .1 ∙ sym (opened k))
 
 add-body : tie.Need-add-body
 add-body c = omega (arith, fits c)
 
 put-head-requires : tie.Need-put-head-requires
-put-head-requires c κs = omega (arith, fits (c .before))
+put-head-requires c κs = omega (arith, fits (c .before), sized (c .before .before))
 
 add-put-nodes : tie.Need-add-put-nodes
 add-put-nodes c = omega (arith, fits (c .before .before .before .before .before))
@@ -181,7 +209,7 @@ put-nodes-requires : tie.Need-put-nodes-requires
 put-nodes-requires c κs =
     let head = c .before .before .before in
     let past = head .before .before in
-    (few (past .before .before), omega (arith, fits past, head .put-head .kept .0))
+    (few (past .before .before .before), omega (arith, fits past, head .put-head .kept .0))
 
 sub-put-tail : tie.Need-sub-put-tail
 sub-put-tail c = search needs
@@ -195,8 +223,8 @@ put-tail-requires c κs =
     let head = nodes .before .before .before .before in
     omega (arith, fits (head .before .before), head .put-head .kept .0, nodes .put-nodes .kept .0)
 
-add-t13 : tie.Need-add-t13
-add-t13 c = omega (arith, fits (c .before .before .before .before .before .before .before .before .before .before .before .before))
+add-t20 : tie.Need-add-t20
+add-t20 c = omega (arith, fits (c .before .before .before .before .before .before .before .before .before .before .before .before))
 
 same-length : tie.Need-same-length
 same-length c = search needs
@@ -211,12 +239,13 @@ returns-5 c =
     let s = start k in
     let ns : List (List ℕ) = take (held s) (s .args .nodes .now) in
     let end : List ℕ = s .args .elided ++ bytesOf 8 (s .args .bucket) in
-    let left = record-given (answer s) (log s) (w s) (65 + 32 * held s) (bytes s) (at k) (openAt (at k + (65 + 32 * held s))) (tail .put-tail .last .0) (opened k)
+    let left = record-given (answer s) (log s) (w s) (size s) (bytes s) (ed k) (at k) (openAt (ed k) (at k + (m past + (64 + 32 * held s)))) (tail .put-tail .last .0) (opened k)
     (update-tests (log s) (w s) (ws s) (held s)
-    ∙ taken (log s) (w s) (eqb (held s) (countOf (ws s))) (reserved (ws s)) (65 + 32 * held s) (given tt) (at k) (opened k) (fit (past .before .before .before .before)) (plain (past .before .before)) (roomy past)) refl
+    ∙ taken (log s) (w s) (eqb (held s) (countOf (ws s))) (reserved (ws s)) (size s) (given tt) (ed k) (at k) (opened k) (fit (past .before .before .before .before .before)) (plain (past .before .before .before)) (roomy past))
+    (ap (λ (n : ℕ). openAt (ed k) (at k + (n + (64 + 32 * held s)))) (sized (past .before)))
     (tail .put-tail .ensures .0
-    ∙ ap (λ (l : List ℕ). put l (at k + (65 + 32 * held s - 16)) end) (nodes .put-nodes .ensures .0 ∙ ap (λ (l : List ℕ). put l (at k + 1 + 48) (flat ns)) (head .put-head .ensures .0))
-    ∙ put-update (log s) (at k) (s .args .id) (ws s) ns (s .args .elided) (s .args .bucket) (held s) (head .put-head .ensures .1) (nodes .put-nodes .ensures .1) (tail .put-tail .ensures .1) (fits past)) in
+    ∙ ap (λ (l : List ℕ). put l (at k + (m past + (64 + 32 * held s) - 16)) end) (nodes .put-nodes .ensures .0 ∙ ap (λ (l : List ℕ). put l (at k + m past + 48) (flat ns)) (head .put-head .ensures .0))
+    ∙ put-update (ed k) (m past) (sized (past .before)) (log s) (at k) (s .args .id) (ws s) (head .put-head .ensures .1) ns (s .args .elided) (s .args .bucket) (held s) (nodes .put-nodes .ensures .1) (tail .put-tail .ensures .1) (fits past)) in
     (left .0, left .1, wide s, λ ok. nodes .put-nodes .ensures .2)
 
 pub write-lent-update-spec : {M : Type 1} → statement M
@@ -232,8 +261,10 @@ write-lent-update-spec =
     is-reserved-requires
     kept-requires-3
     returns-3
+    mark-size-requires
     mul-size
     add-size
+    add-size-2
     room-at-requires
     kept-requires-4
     returns-4
@@ -244,6 +275,6 @@ write-lent-update-spec =
     sub-put-tail
     add-put-tail
     put-tail-requires
-    add-t13
+    add-t20
     same-length
     returns-5)

@@ -1,6 +1,6 @@
 -- Each test answers as the definition does; with all passed the record is put part by part. Assumes nothing.
 use Prim.Native.Nat.{ℕ, _+_, _-_, _*_, _≤_}
-use mathlib.Core.Path.{_≡_, sym, ap, _∙_}
+use mathlib.Core.Path.{_≡_, sym, ap, ap₂, _∙_}
 use mathlib.Core.Bool.{true, false}
 use mathlib.Core.List.{List, _++_, map}
 use native.Mathlib.Omega.{arith}
@@ -16,10 +16,12 @@ use Rattle.blocks.proofs.Laws.{block-length}
 use Rattle.page_diff.specs.Diff.{slots, countOf, reserved}
 use Rattle.page_diff.specs.Pack.{nodeAt}
 use Rattle.page_diff.proofs.Walk.{plain-count}
-use Rattle.wal.specs.Log.{recordOf}
+use Rattle.wal.specs.Log.{markSize, recordOf, updateSize}
 use Rattle.wal.specs.Writer.{openAt, capacity}
 use Rattle.wal.specs.Run.{Wide}
+use Rattle.wal.specs.declared.Edition.{Edition}
 use Rattle.wal.specs.declared.Writer.{Writer}
+use Rattle.wal.proofs.Records.{mark-small}
 use Rattle.wal_write.specs.Calls.{pageUpdateAnswer, pageUpdate, UpdatesPage}
 use Rattle.wal_write.specs.declared.Written.{Written}
 use Rattle.page_diff.proofs.Nodes.{page-nodes-length, nodes-plain}
@@ -45,8 +47,11 @@ module _ (c : tie.Start) where
   abbrev answer : Answer (Unit {0})
   answer = pageUpdateAnswer log w ws page
 
-  abbrev bytes : List ℕ
-  bytes = recordOf (pageUpdate (c .args .id) ws page (c .args .bucket))
+  abbrev size : Edition → ℕ
+  size ed = updateSize ed (countOf ws)
+
+  abbrev bytes : Edition → List ℕ
+  bytes ed = recordOf ed (pageUpdate (c .args .id) ws page (c .args .bucket))
 
   -- the widths that the types give
   wide : Wide (c .args .id) ws (block 8 page 4056) (c .args .bucket)
@@ -62,7 +67,7 @@ module _ (c : tie.Start) where
   -- a refused call
   refused-call : (n : ℕ) (r : Written) → answer ≡ refused n → outcomeSaid (r .outcome) ≡ refused n → r .writer ≡ w → UpdatesPage log w (c .args .id) ws page (c .args .bucket) r log
   refused-call n r e k s =
-      let left = record-refused answer log w (65 + 32 * countOf ws) bytes n (outcomeSaid (r .outcome)) (r .writer) e k s in
+      let left = record-refused answer log w size bytes n (outcomeSaid (r .outcome)) (r .writer) e k s in
       (left .0, left .1, wide)
 
 -- an open writer
@@ -73,7 +78,10 @@ module _ (c : tie.After-known-told) where
   abbrev at : ℕ
   at = c .before .w .given .0 .0
 
-  opened : w start ≡ openAt at
+  abbrev ed : Edition
+  ed = c .before .w .given .0 .1 .0
+
+  opened : w start ≡ openAt ed at
   opened = c .before .w .given .1
 
 -- a whole page
@@ -89,27 +97,35 @@ module _ (c : tie.Else2) where
   plain = sym (c .before .is-reserved .ensures) ∙ c .if2 .left
 
 few : (c : tie.After-count) → c .count .result ≤ 126
-few c = omega (arith, c .count .ensures, plain-count (ws (start (open-at (c .before)))) (plain (c .before)))
+few c = omega (arith, c .count .ensures, plain-count (ws (start (open-at (c .before .before)))) (plain (c .before .before)))
 
--- the test of room, of the count that the definition has
-room : (c : tie.After-room-at) → c .room-at .result ≡ leb (at (open-at (c .before .before)) + (65 + 32 * countOf (ws (start (open-at (c .before .before))))) + 1) (capacity (log (start (open-at (c .before .before)))))
-room c =
-    let k = open-at (c .before .before) in
-    c .room-at .ensures ∙ ap (λ (n : ℕ). leb (at k + (65 + 32 * n) + 1) (capacity (log (start k)))) (c .before .count .ensures)
+-- the test of room, of the mark's size and the count that the definition has
+module _ (c : tie.After-room-at) where
+  abbrev asked-at : tie.After-known-told
+  asked-at = open-at (c .before .before .before)
+
+  sized : c .before .before .mark-size .result ≡ markSize (ed asked-at)
+  sized = c .before .before .mark-size .ensures
+
+  counted : c .before .count .result ≡ countOf (ws (start asked-at))
+  counted = c .before .count .ensures
+
+  room : c .room-at .result ≡ leb (at asked-at + size (start asked-at) (ed asked-at) + markSize (ed asked-at)) (capacity (log (start asked-at)))
+  room = c .room-at .ensures ∙ ap₂ (λ (m n : ℕ). leb (at asked-at + (m + (64 + 32 * n)) + m) (capacity (log (start asked-at)))) sized counted
 
 -- room
 module _ (c : tie.Else3) where
   abbrev opens : tie.After-known-told
-  opens = open-at (c .before .before .before)
+  opens = asked-at (c .before)
 
-  roomy : leb (at opens + (65 + 32 * countOf (ws (start opens))) + 1) (capacity (log (start opens))) ≡ true
+  abbrev m : ℕ
+  m = c .before .before .before .mark-size .result
+
+  roomy : leb (at opens + size (start opens) (ed opens) + markSize (ed opens)) (capacity (log (start opens))) ≡ true
   roomy = sym (room (c .before)) ∙ not-false (c .before .room-at .result) (c .if3 .left)
 
-  fits : at opens + (65 + 32 * countOf (ws (start opens))) ≤ length (log (start opens))
-  fits = omega (arith, leb-true (at opens + (65 + 32 * countOf (ws (start opens))) + 1) (capacity (log (start opens))) roomy)
-
-  counted : c .before .before .count .result ≡ countOf (ws (start opens))
-  counted = c .before .before .count .ensures
+  fits : at opens + (m + (64 + 32 * countOf (ws (start opens)))) ≤ length (log (start opens))
+  fits = omega (arith, leb-true (at opens + size (start opens) (ed opens) + markSize (ed opens)) (capacity (log (start opens))) roomy, sized (c .before))
 
 enum-known-w : tie.Need-enum-known-w
 enum-known-w c = search needs
@@ -121,7 +137,7 @@ returns : tie.Need-returns
 returns c =
     let s = c .before .before .before .before in
     refused-call s 12 (c .kept .result)
-    (page-tests (log s) (w s) (ws s) (page s) ∙ not-open (log s) (w s) (eqb (length (page s)) 4096) (reserved (ws s)) (65 + 32 * countOf (ws s)) (given tt) (c .before .match .keys2)) (c .kept .ensures .0) (c .kept .ensures .1)
+    (page-tests (log s) (w s) (ws s) (page s) ∙ not-open (log s) (w s) (eqb (length (page s)) 4096) (reserved (ws s)) (size s) (given tt) (c .before .match .keys2)) (c .kept .ensures .0) (c .kept .ensures .1)
 
 kept-requires-2 : tie.Need-kept-requires-2
 kept-requires-2 c κs = search needs
@@ -132,7 +148,7 @@ returns-2 c =
     let s = start k in
     refused-call s 2 (c .kept2 .result)
     (page-tests (log s) (w s) (ws s) (page s)
-    ∙ unfit (log s) (w s) (eqb (length (page s)) 4096) (reserved (ws s)) (65 + 32 * countOf (ws s)) (given tt) (at k) (opened k) (ne-eqb (length (page s)) 4096 (c .before .if1 .taken))) (c .kept2 .ensures .0) (c .kept2 .ensures .1 ∙ sym (opened k))
+    ∙ unfit (log s) (w s) (eqb (length (page s)) 4096) (reserved (ws s)) (size s) (given tt) (ed k) (at k) (opened k) (ne-eqb (length (page s)) 4096 (c .before .if1 .taken))) (c .kept2 .ensures .0) (c .kept2 .ensures .1 ∙ sym (opened k))
 
 is-reserved-requires : tie.Need-is-reserved-requires
 is-reserved-requires c κs = search needs
@@ -148,7 +164,10 @@ returns-3 c =
     let s = start k in
     refused-call s 4 (c .kept3 .result)
     (page-tests (log s) (w s) (ws s) (page s)
-    ∙ reserved-bit (log s) (w s) (eqb (length (page s)) 4096) (reserved (ws s)) (65 + 32 * countOf (ws s)) (given tt) (at k) (opened k) (fit past) (sym (asked .is-reserved .ensures) ∙ c .before .if2 .taken)) (c .kept3 .ensures .0) (c .kept3 .ensures .1 ∙ sym (opened k))
+    ∙ reserved-bit (log s) (w s) (eqb (length (page s)) 4096) (reserved (ws s)) (size s) (given tt) (ed k) (at k) (opened k) (fit past) (sym (asked .is-reserved .ensures) ∙ c .before .if2 .taken)) (c .kept3 .ensures .0) (c .kept3 .ensures .1 ∙ sym (opened k))
+
+mark-size-requires : tie.Need-mark-size-requires
+mark-size-requires c κs = search needs
 
 count-requires : tie.Need-count-requires
 count-requires c κs = search needs
@@ -159,6 +178,9 @@ mul-size c = omega (arith, few c)
 add-size : tie.Need-add-size
 add-size c = omega (arith, few c)
 
+add-size-2 : tie.Need-add-size-2
+add-size-2 c = omega (arith, few c, c .before .mark-size .ensures, mark-small (ed (open-at (c .before .before))))
+
 room-at-requires : tie.Need-room-at-requires
 room-at-requires c κs = search needs
 
@@ -168,18 +190,18 @@ kept-requires-4 c κs = search needs
 returns-4 : tie.Need-returns-4
 returns-4 c =
     let asked = c .before .before in
-    let past = asked .before .before in
+    let past = asked .before .before .before in
     let k = open-at past in
     let s = start k in
     refused-call s 13 (c .kept4 .result)
     (page-tests (log s) (w s) (ws s) (page s)
-    ∙ no-room (log s) (w s) (eqb (length (page s)) 4096) (reserved (ws s)) (65 + 32 * countOf (ws s)) (given tt) (at k) (opened k) (fit (past .before .before)) (plain past) (sym (room asked) ∙ not-true (asked .room-at .result) (c .before .if3 .taken))) (c .kept4 .ensures .0) (c .kept4 .ensures .1 ∙ sym (opened k))
+    ∙ no-room (log s) (w s) (eqb (length (page s)) 4096) (reserved (ws s)) (size s) (given tt) (ed k) (at k) (opened k) (fit (past .before .before)) (plain past) (sym (room asked) ∙ not-true (asked .room-at .result) (c .before .if3 .taken))) (c .kept4 .ensures .0) (c .kept4 .ensures .1 ∙ sym (opened k))
 
 add-body : tie.Need-add-body
 add-body c = omega (arith, fits c)
 
 put-head-requires : tie.Need-put-head-requires
-put-head-requires c κs = omega (arith, fits (c .before))
+put-head-requires c κs = omega (arith, fits (c .before), sized (c .before .before))
 
 add-put-page-nodes : tie.Need-add-put-page-nodes
 add-put-page-nodes c = omega (arith, fits (c .before .before .before .before .before))
@@ -191,7 +213,7 @@ sub-put-tail : tie.Need-sub-put-tail
 sub-put-tail c = search needs
 
 add-put-tail : tie.Need-add-put-tail
-add-put-tail c = let past = c .before .before .before .before .before .before .before .before .before in omega (arith, fits past, counted past)
+add-put-tail c = let past = c .before .before .before .before .before .before .before .before .before in omega (arith, fits past, counted (past .before))
 
 block-8-requires : tie.Need-block-8-requires
 block-8-requires c κs = search needs
@@ -201,10 +223,10 @@ put-tail-requires c κs =
     let nodes = c .before .before .before .before in
     let head = nodes .before .before .before .before in
     let past = head .before .before in
-    omega (arith, fits past, counted past, head .put-head .kept .0, nodes .put-page-nodes .kept .0)
+    omega (arith, fits past, counted (past .before), head .put-head .kept .0, nodes .put-page-nodes .kept .0)
 
-add-t16 : tie.Need-add-t16
-add-t16 c = let past = c .before .before .before .before .before .before .before .before .before .before .before .before .before in omega (arith, fits past, counted past)
+add-t19 : tie.Need-add-t19
+add-t19 c = let past = c .before .before .before .before .before .before .before .before .before .before .before .before .before in omega (arith, fits past, counted (past .before))
 
 same-length : tie.Need-same-length
 same-length c = search needs
@@ -221,15 +243,15 @@ returns-5 c =
     let n : ℕ = countOf (ws s) in
     let ns : List (List ℕ) = map (nodeAt (page s)) (slots (ws s)) in
     let el : List ℕ = block 8 (page s) 4056 in
-    let left = record-given (answer s) (log s) (w s) (65 + 32 * n) (bytes s) (at k) (openAt (at k + (65 + 32 * past .before .before .count .result))) (tail .put-tail .last .0) (opened k)
+    let left = record-given (answer s) (log s) (w s) (size s) (bytes s) (ed k) (at k) (openAt (ed k) (at k + (m past + (64 + 32 * past .before .before .count .result)))) (tail .put-tail .last .0) (opened k)
     (page-tests (log s) (w s) (ws s) (page s)
-    ∙ taken (log s) (w s) (eqb (length (page s)) 4096) (reserved (ws s)) (65 + 32 * n) (given tt) (at k) (opened k) (fit (past .before .before .before .before .before)) (plain (past .before .before .before)) (roomy past))
-    (ap (λ (m : ℕ). openAt (at k + (65 + 32 * m))) (counted past))
+    ∙ taken (log s) (w s) (eqb (length (page s)) 4096) (reserved (ws s)) (size s) (given tt) (ed k) (at k) (opened k) (fit (past .before .before .before .before .before .before)) (plain (past .before .before .before .before)) (roomy past))
+    (ap₂ (λ (x y : ℕ). openAt (ed k) (at k + (x + (64 + 32 * y)))) (sized (past .before)) (counted (past .before)))
     (tail .put-tail .ensures .0
-    ∙ ap (λ (m : ℕ). put (nodes .put-page-nodes .last .0) (at k + (65 + 32 * m - 16)) (read .block-8 .result ++ bytesOf 8 (s .args .bucket))) (counted past)
-    ∙ ap (λ (e : List ℕ). put (nodes .put-page-nodes .last .0) (at k + (65 + 32 * n - 16)) (e ++ bytesOf 8 (s .args .bucket))) (read .block-8 .ensures)
-    ∙ ap (λ (l : List ℕ). put l (at k + (65 + 32 * n - 16)) (el ++ bytesOf 8 (s .args .bucket))) (nodes .put-page-nodes .ensures ∙ nodes-plain (head .put-head .last .0) (at k + 1 + 48) (ws s) (page s) (plain (past .before .before .before)) ∙ ap (λ (l : List ℕ). put l (at k + 1 + 48) (flat ns)) (head .put-head .ensures .0))
-    ∙ put-update (log s) (at k) (s .args .id) (ws s) ns el (s .args .bucket) n (head .put-head .ensures .1) (page-nodes-length (page s) (slots (ws s))) (block-length 8 (page s) 4056) (fits past)) in
+    ∙ ap (λ (y : ℕ). put (nodes .put-page-nodes .last .0) (at k + (m past + (64 + 32 * y) - 16)) (read .block-8 .result ++ bytesOf 8 (s .args .bucket))) (counted (past .before))
+    ∙ ap (λ (e : List ℕ). put (nodes .put-page-nodes .last .0) (at k + (m past + (64 + 32 * n) - 16)) (e ++ bytesOf 8 (s .args .bucket))) (read .block-8 .ensures)
+    ∙ ap (λ (l : List ℕ). put l (at k + (m past + (64 + 32 * n) - 16)) (el ++ bytesOf 8 (s .args .bucket))) (nodes .put-page-nodes .ensures ∙ nodes-plain (head .put-head .last .0) (at k + m past + 48) (ws s) (page s) (plain (past .before .before .before .before)) ∙ ap (λ (l : List ℕ). put l (at k + m past + 48) (flat ns)) (head .put-head .ensures .0))
+    ∙ put-update (ed k) (m past) (sized (past .before)) (log s) (at k) (s .args .id) (ws s) (head .put-head .ensures .1) ns el (s .args .bucket) n (page-nodes-length (page s) (slots (ws s))) (block-length 8 (page s) 4056) (fits past)) in
     (left .0, left .1, wide s)
 
 pub write-page-update-spec : {M : Type 1} → statement M
@@ -244,9 +266,11 @@ write-page-update-spec =
     is-reserved-requires
     kept-requires-3
     returns-3
+    mark-size-requires
     count-requires
     mul-size
     add-size
+    add-size-2
     room-at-requires
     kept-requires-4
     returns-4
@@ -258,6 +282,6 @@ write-page-update-spec =
     add-put-tail
     block-8-requires
     put-tail-requires
-    add-t16
+    add-t19
     same-length
     returns-5)
