@@ -1,9 +1,22 @@
 //! What the rows are run on: the same bytes for ours and for the original.
 
-use bitbox::{allocate, Diff, PAGE};
+use bitbox::{allocate, Diff, Reader, Start, PAGE};
 use original::{diff::Words, hash, Seed};
 
 pub const SEED: Seed = [7; 16];
+
+/// The editions of ours, and how a row's name ends for each. The original has edition one alone, and stands beside
+/// both with it.
+pub const EDITIONS: [(Start, &str); 2] = [(Start::one(1), ""), (Start::two(1, SEED), ", edition two")];
+
+/// Whether a log has the entries that the original's has; in edition one it is the same bytes.
+pub fn same_entries(log: &[u8], theirs: &[u8]) -> bool {
+    let (read, other) = (Reader::new(log).expect("a log"), Reader::new(theirs).expect("a log"));
+    match read.edition() == other.edition() {
+        true => log == theirs,
+        false => read.eq(other),
+    }
+}
 
 /// Numbers that look random and are the same at each run.
 pub struct Rng(pub u64);

@@ -17,6 +17,7 @@ fn rows(quick: bool, rng: &mut Rng) -> Vec<Row> {
     let mut rows = leaves::pack(rng);
     rows.extend(leaves::unpack(rng));
     rows.extend(leaves::log(rng));
+    rows.extend(leaves::clears(rng));
     let sizes: &[u32] = if quick { &[14] } else { &[14, 20] };
     for &bits in sizes {
         rows.extend(path::allocation(bits, rng));
@@ -31,20 +32,22 @@ fn curves(quick: bool, rng: &mut Rng) -> (Vec<Row>, Vec<Curve>) {
     let mut rows = vec![];
     let names = ["sync, by changes", "replay, by entries", "growth, by buckets", "audit, by buckets"];
     let mut curves = names.map(|name| Curve { name, points: vec![] });
-    let mut take = |row: Row, curve: usize, size: usize| {
+    // Rows of edition two stand beside those of edition one and are not drawn.
+    let mut take = |row: Row, two: Option<Row>, curve: usize, size: usize| {
         curves[curve].points.push((size, row.ours, row.original));
         rows.push(row);
+        rows.extend(two);
     };
     for count in [100, 1_000, 10_000] {
-        let [synced, replayed] = whole::sync_and_replay(count, 9, rng);
-        take(synced, 0, count);
-        take(replayed, 1, count);
+        let [[synced, replayed], [synced_two, replayed_two]] = whole::sync_and_replay(count, 9, rng);
+        take(synced, Some(synced_two), 0, count);
+        take(replayed, Some(replayed_two), 1, count);
     }
     for bits in if quick { [10, 12, 14] } else { [12, 14, 16] } {
-        take(whole::growth(bits, 7, rng), 2, 1 << bits);
+        take(whole::growth(bits, 7, rng), None, 2, 1 << bits);
     }
     for bits in if quick { [10, 12, 14] } else { [14, 16, 18] } {
-        take(whole::audits(bits, 7, rng), 3, 1 << bits);
+        take(whole::audits(bits, 7, rng), None, 3, 1 << bits);
     }
     (rows, curves.into())
 }

@@ -2,7 +2,7 @@
 
 use crate::{
     clock::{row, timed, Row},
-    inputs::{diff, hash_of, Rng, Stored, Table, SEED},
+    inputs::{diff, hash_of, same_entries, Rng, Stored, Table, EDITIONS, SEED},
 };
 use bitbox::{audit, grow, replay, sync, Change, Grown, Lent, Replayed, Where, Writer, PAGE};
 use original::{diff::Words, running::Folder, sync as their, timed as theirs};
@@ -27,8 +27,8 @@ fn changes(stored: &[Stored], count: usize, rng: &mut Rng) -> Vec<Changed> {
         .collect()
 }
 
-/// A sync of so many changes, and the replay of its log.
-pub fn sync_and_replay(count: usize, repeats: usize, rng: &mut Rng) -> [Row; 2] {
+/// A sync of so many changes, and the replay of its log: in edition one, then in edition two.
+pub fn sync_and_replay(count: usize, repeats: usize, rng: &mut Rng) -> [[Row; 2]; 2] {
     let mut table = Table::new(1 << BITS);
     table.fill(50, rng);
     let list = changes(&table.stored, count, rng);
@@ -45,43 +45,53 @@ pub fn sync_and_replay(count: usize, repeats: usize, rng: &mut Rng) -> [Row; 2] 
             their::Change { id: c.id, diff: c.words, place, page }
         })
         .collect();
-    let (mut log, mut length, mut log_of_theirs) = (vec![0; (count + 2) * PAGE], 0, vec![]);
-    // The original is given pages that have just been copied, so ours is too.
-    let mut lent_pages = pages.clone();
-    let ours = || {
-        lent_pages.copy_from_slice(&pages);
-        let (mut tags, mut marks) = (table.tags.clone(), vec![0; table.tags.len() / PAGE]);
-        let mut lent = Lent { n: table.n, tags: &mut tags, marks: &mut marks, cells: &mut [], log: &mut log };
-        let (took, said) = timed(|| sync(&mut lent, &mut Writer::Fresh, 1, &mine, &lent_pages));
-        length = said.expect("the sync is taken").length;
-        took
-    };
-    let original = || {
-        let (took, log) = theirs::prepare(table.n, &SEED, &table.tags, 1, &other, &[]);
-        log_of_theirs = log;
-        took
-    };
-    let synced = row(format!("sync, {count} changes"), count, repeats, ours, original);
-    assert!(log[..length] == log_of_theirs);
     let hashes: Vec<u64> = mine.iter().filter(|c| !c.diff().cleared()).map(Change::hash).collect();
-    [synced, replayed(&table, &log[..length], &hashes, count, repeats)]
+    EDITIONS.map(|(start, edition)| {
+        let (mut log, mut length, mut log_of_theirs) = (vec![0; (count + 2) * PAGE], 0, vec![]);
+        // The original is given pages that have just been copied, so ours is too.
+        let mut lent_pages = pages.clone();
+        let ours = || {
+            lent_pages.copy_from_slice(&pages);
+            let (mut tags, mut marks) = (table.tags.clone(), vec![0; table.tags.len() / PAGE]);
+            let mut lent = Lent { n: table.n, tags: &mut tags, marks: &mut marks, cells: &mut [], log: &mut log };
+            let (took, said) = timed(|| sync(&mut lent, &mut Writer::Fresh, start, &mine, &lent_pages));
+            length = said.expect("the sync is taken").length;
+            took
+        };
+        let original = || {
+            let (took, log) = theirs::prepare(table.n, &SEED, &table.tags, 1, &other, &[]);
+            log_of_theirs = log;
+            took
+        };
+        let synced = row(format!("sync, {count} changes{edition}"), count, repeats, ours, original);
+        assert!(same_entries(&log[..length], &log_of_theirs));
+        let logs = [&log[..length], &log_of_theirs];
+        [synced, replayed(&table, logs, &hashes, format!("replay, {count} entries{edition}"), (count, repeats))]
+    })
 }
 
-fn replayed(table: &Table, log: &[u8], hashes: &[u64], count: usize, repeats: usize) -> Row {
+/// The replay of a log by ours, and of the original's log of the same entries by the original.
+fn replayed(
+    table: &Table,
+    [log, theirs]: [&[u8]; 2],
+    hashes: &[u64],
+    name: String,
+    (count, repeats): (usize, usize),
+) -> Row {
     let image = table.image();
     let (mut mine, mut other) = (image.clone(), vec![]);
     let ours = || {
         mine.copy_from_slice(&image);
-        let (took, said) = timed(|| replay(&mut mine, table.n, log, 1, hashes));
+        let (took, said) = timed(|| replay(&mut mine, table.n, log, 1, &SEED, hashes));
         assert!(said == Ok(Replayed::Applied));
         took
     };
     let original = || {
-        let (took, image) = theirs::recover(&image, table.n as u32, &SEED, log, 1);
+        let (took, image) = theirs::recover(&image, table.n as u32, &SEED, theirs, 1);
         other = image;
         took
     };
-    let done = row(format!("replay, {count} entries"), count, repeats, ours, original);
+    let done = row(name, count, repeats, ours, original);
     assert!(mine == other);
     done
 }

@@ -4,6 +4,7 @@
 use model::{
     audit::Audited,
     diff::{Diff, Node, Packed},
+    edition::{Edition, Seed, Start},
     growth::{Grown, Pending},
     path::{Found, Probed},
     reader::Entry,
@@ -60,12 +61,12 @@ pub trait Engine {
     fn lookup(image: &[u8], n: u64, hash: u64, id: &[u8; 32]) -> Answer<Found>;
     fn allocate(tags: &mut [u8], n: u64, hash: u64) -> Answer<u64>;
 
-    fn reader_set(log: &[u8]) -> Answer<u32>;
-    fn reader_next(log: &[u8], at: u64) -> Answer<(Entry, u64)>;
+    fn reader_set(log: &[u8]) -> Answer<Start>;
+    fn reader_next(log: &[u8], edition: Edition, at: u64) -> Answer<(Entry, u64)>;
     /// An entry without its fields.
-    fn reader_head(log: &[u8], at: u64) -> Answer<Head>;
+    fn reader_head(log: &[u8], edition: Edition, at: u64) -> Answer<Head>;
 
-    fn begin(log: &mut [u8], w: Writer, sync: u32) -> Answer<Writer>;
+    fn begin(log: &mut [u8], w: Writer, start: Start) -> Answer<Writer>;
     fn write_clear(log: &mut [u8], w: Writer, bucket: u64) -> Answer<Writer>;
     fn write_update(
         log: &mut [u8],
@@ -79,10 +80,10 @@ pub trait Engine {
     fn finish(log: &mut [u8], w: Writer) -> Answer<(u64, Writer)>;
 
     fn sync_step(lent: &mut Lent, state: State, change: &Change, page: &[u8]) -> Answer<(Step, State)>;
-    fn sync(lent: &mut Lent, writer: &mut Writer, number: u32, changes: &[Change], pages: &[u8]) -> Synced;
+    fn sync(lent: &mut Lent, writer: &mut Writer, start: Start, changes: &[Change], pages: &[u8]) -> Synced;
 
-    fn replay(image: &mut [u8], n: u64, log: &[u8], sync: u32, hashes: &[u64]) -> Answer<Replayed>;
-    fn replay_step(image: &mut [u8], n: u64, log: &[u8], at: u64, hash: u64) -> Answer<Stepped>;
+    fn replay(image: &mut [u8], n: u64, log: &[u8], sync: u32, seed: &Seed, hashes: &[u64]) -> Answer<Replayed>;
+    fn replay_step(image: &mut [u8], n: u64, log: &[u8], edition: Edition, at: u64, hash: u64) -> Answer<Stepped>;
 
     fn write_marker(old: u32, new: u32) -> Answer<[u8; 16]>;
     fn read_marker(bytes: &[u8]) -> Answer<(u32, u32)>;
@@ -204,20 +205,20 @@ impl Engine for Model {
         model::path::allocate(tags, n, hash)
     }
 
-    fn reader_set(log: &[u8]) -> Answer<u32> {
+    fn reader_set(log: &[u8]) -> Answer<Start> {
         model::reader::set(log)
     }
 
-    fn reader_next(log: &[u8], at: u64) -> Answer<(Entry, u64)> {
-        model::reader::next(log, at)
+    fn reader_next(log: &[u8], edition: Edition, at: u64) -> Answer<(Entry, u64)> {
+        model::reader::next(log, edition, at)
     }
 
-    fn reader_head(log: &[u8], at: u64) -> Answer<Head> {
-        model::reader::next(log, at).map(|(entry, after)| head_of(&entry, after))
+    fn reader_head(log: &[u8], edition: Edition, at: u64) -> Answer<Head> {
+        model::reader::next(log, edition, at).map(|(entry, after)| head_of(&entry, after))
     }
 
-    fn begin(log: &mut [u8], _w: Writer, sync: u32) -> Answer<Writer> {
-        model::writer::begin(log, sync)
+    fn begin(log: &mut [u8], _w: Writer, start: Start) -> Answer<Writer> {
+        model::writer::begin(log, start)
     }
 
     fn write_clear(log: &mut [u8], w: Writer, bucket: u64) -> Answer<Writer> {
@@ -244,16 +245,16 @@ impl Engine for Model {
         model::sync::step(lent, state, change, page)
     }
 
-    fn sync(lent: &mut Lent, writer: &mut Writer, number: u32, changes: &[Change], pages: &[u8]) -> Synced {
-        model::sync::sync(lent, writer, number, changes, pages)
+    fn sync(lent: &mut Lent, writer: &mut Writer, start: Start, changes: &[Change], pages: &[u8]) -> Synced {
+        model::sync::sync(lent, writer, start, changes, pages)
     }
 
-    fn replay(image: &mut [u8], n: u64, log: &[u8], sync: u32, hashes: &[u64]) -> Answer<Replayed> {
-        model::replay::replay(image, n, log, sync, hashes)
+    fn replay(image: &mut [u8], n: u64, log: &[u8], sync: u32, seed: &Seed, hashes: &[u64]) -> Answer<Replayed> {
+        model::replay::replay(image, n, log, sync, seed, hashes)
     }
 
-    fn replay_step(image: &mut [u8], n: u64, log: &[u8], at: u64, hash: u64) -> Answer<Stepped> {
-        model::replay::step(image, n, log, at, hash)
+    fn replay_step(image: &mut [u8], n: u64, log: &[u8], edition: Edition, at: u64, hash: u64) -> Answer<Stepped> {
+        model::replay::step(image, n, log, edition, at, hash)
     }
 
     fn write_marker(old: u32, new: u32) -> Answer<[u8; 16]> {

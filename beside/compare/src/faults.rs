@@ -5,6 +5,7 @@ use crate::engine::{Engine, Head};
 use model::{
     audit::Audited,
     diff::{Diff, Node, Packed},
+    edition::{Edition, Seed, Start},
     growth::{Grown, Pending},
     path::{Found, Probed},
     reader::Entry,
@@ -76,7 +77,7 @@ const fn fault(side: Side, part: &'static str, call: &'static str, says: &'stati
 
 use Side::*;
 
-pub const FAULTS: [Fault; 38] = [
+pub const FAULTS: [Fault; 49] = [
     fault(Ours, "diff", "pack", "the count of packed nodes is one more", |c| {
         c.said::<Answer<Packed>>().iter_mut().for_each(|p| p.count += 1)
     }),
@@ -107,7 +108,7 @@ pub const FAULTS: [Fault; 38] = [
     }),
     fault(Ours, "sync", "sync", "a writer stays open where the sync is refused at a change", |c| {
         if let (Synced::RefusedAt { .. }, w) = c.said::<(Synced, Writer)>() {
-            *w = Writer::Open(5);
+            *w = Writer::Open(Edition::One, 5);
         }
     }),
     fault(Ours, "sync", "sync", "the last byte of the padding is zeroed", |c| {
@@ -126,7 +127,7 @@ pub const FAULTS: [Fault; 38] = [
     fault(Alike, "write", "write_clear", "a clear that fits to the last byte is refused with 13", |c| {
         let room = c.lent(0).len() as u64 / 4096 * 4096;
         let said = c.said::<Answer<Writer>>();
-        if *said == Ok(Writer::Open(room - room.min(1))) {
+        if *said == Ok(Writer::Open(Edition::One, room - room.min(1))) {
             *said = Err(Refused(13));
         }
     }),
@@ -139,8 +140,8 @@ pub const FAULTS: [Fault; 38] = [
     fault(Alike, "sync", "sync", "where a sync is refused at a change, an end follows its records", |c| {
         if matches!(c.said::<(Synced, Writer)>().0, Synced::RefusedAt { .. }) {
             let log = c.lent(2);
-            let mut at = model::reader::FIRST;
-            while let Ok((entry, next)) = model::reader::next(log, at) {
+            let mut at = Edition::One.first();
+            while let Ok((entry, next)) = model::reader::next(log, Edition::One, at) {
                 at = next;
                 if entry == Entry::End {
                     break;
@@ -210,8 +211,8 @@ pub const FAULTS: [Fault; 38] = [
     }),
     fault(Original, "sync", "sync", "an update sets the tag of a known bucket", |c| {
         let (_, left) = c.said::<(Said<Prepared>, Left)>();
-        let mut at = model::reader::FIRST;
-        while let Ok((entry, next)) = model::reader::next(&left.log, at) {
+        let mut at = Edition::One.first();
+        while let Ok((entry, next)) = model::reader::next(&left.log, Edition::One, at) {
             match entry {
                 Entry::End => break,
                 Entry::Update { id, bucket, .. } if bucket < left.tags.len() as u64 => {
@@ -254,7 +255,90 @@ pub const FAULTS: [Fault; 38] = [
         let finished = c.said::<theirs::Finished>();
         finished.marker |= above;
     }),
+    fault(Alike, "second", "replay", "a log of any store is taken", |c| taken_anyway(c, |_, _| true)),
+    fault(Alike, "second", "replay", "the last byte of the seed is not compared", |c| {
+        taken_anyway(c, |log, table| log[..15] == table[..15])
+    }),
+    fault(Alike, "second", "replay", "the first byte of the seed is not compared", |c| {
+        taken_anyway(c, |log, table| log[1..] == table[1..])
+    }),
+    fault(Alike, "second", "replay", "another store's log is stale before it is 26", |c| {
+        let stale = model::reader::set(c.lent(1)).is_ok_and(|start| start.sync as u64 != c.facts[1]);
+        let said = c.said::<Answer<Replayed>>();
+        if *said == Err(Refused(26)) && stale {
+            *said = Ok(Replayed::Stale);
+        }
+    }),
+    // Positions of edition two are even, but for those that no call answered; the original is not asked at them.
+    fault(Ours, "second", "write_clear", "in edition two a clear that leaves one byte for end is taken", |c| {
+        clear_leaving(c, 1)
+    }),
+    fault(Alike, "second", "write_clear", "in edition two a clear that leaves no byte for end is taken", |c| {
+        clear_leaving(c, 0)
+    }),
+    fault(Alike, "second", "write_clear", "in edition two a clear that fits to the last byte is refused", |c| {
+        let room = c.lent(0).len() as u64 / 4096 * 4096;
+        let said = c.said::<Answer<Writer>>();
+        if *said == Ok(Writer::Open(Edition::Two, room - room.min(2))) {
+            *said = Err(Refused(13));
+        }
+    }),
+    fault(Alike, "second", "reader_next", "a bare tag is taken in edition two", |c| {
+        let log = c.lent(0).to_vec();
+        let (at, two) = (c.facts[0], c.facts[1] == 2);
+        let said = c.said::<Answer<(Entry, u64)>>();
+        if two && *said == Err(Refused(8)) {
+            *said = model::reader::next(&log, Edition::One, at);
+        }
+    }),
+    fault(Alike, "second", "reader_next", "a 0xB2 as the last byte is 8", |c| {
+        let last = c.lent(0).len() as u64 == c.facts[0].wrapping_add(1);
+        let said = c.said::<Answer<(Entry, u64)>>();
+        if last && *said == Err(Refused(6)) {
+            *said = Err(Refused(8));
+        }
+    }),
+    fault(Alike, "second", "begin", "the last byte of the seed is not written", |c| {
+        if let Ok(Writer::Open(Edition::Two, _)) = *c.said::<Answer<Writer>>() {
+            c.lent(0)[21] ^= 1;
+        }
+    }),
+    fault(Ours, "second", "reader_set", "the seed of a log is read as zeros", |c| {
+        c.said::<Answer<Start>>().iter_mut().filter_map(|start| start.seed.as_mut()).for_each(|seed| *seed = [0; 16])
+    }),
 ];
+
+/// A log of another store is replayed as if it were the table's, where its seed and the table's are such.
+fn taken_anyway(c: &mut Call, such: fn(&[u8], &[u8]) -> bool) {
+    let (n, sync) = (c.facts[0], c.facts[1] as u32);
+    let (log, table) = (c.lent(1).to_vec(), c.lent(2).to_vec());
+    if *c.said::<Answer<Replayed>>() != Err(Refused(26)) || !such(&log[6..22], &table) {
+        return;
+    }
+    let seed = log[6..22].try_into().expect("a seed");
+    let hashes = crate::input::log_hashes(&log);
+    *c.said::<Answer<Replayed>>() = model::replay::replay(c.lent(0), n, &log, sync, &seed, &hashes);
+}
+
+/// A clear of edition two is written where it leaves so many bytes of the room.
+fn clear_leaving(c: &mut Call, left: u64) {
+    let (bucket, at) = (c.facts[0], c.facts[1]);
+    let room = c.lent(0).len() as u64 / 4096 * 4096;
+    if c.facts[2] == 2 && at < room && at + 10 + left == room {
+        let record = [&[0xB2, 3][..], &bucket.to_le_bytes()].concat();
+        c.lent(0)[at as usize..][..10].copy_from_slice(&record);
+        *c.said::<Answer<Writer>>() = Ok(Writer::Open(Edition::Two, at + 10));
+    }
+}
+
+/// A writer's position and its edition, 0 for one that is not open.
+fn stands(w: Writer) -> (u64, u64) {
+    match w {
+        Writer::Open(Edition::One, at) => (at, 1),
+        Writer::Open(Edition::Two, at) => (at, 2),
+        _ => (0, 0),
+    }
+}
 
 fn never_grows(c: &mut Call) {
     let said = c.said::<Answer<Grown>>();
@@ -336,18 +420,20 @@ impl<E: Engine> Engine for Bent<E> {
         probe(tags: &[u8], n: u64, hash: u64, k: u64) -> Answer<Probed>, [n, k], [tags];
         lookup(image: &[u8], n: u64, hash: u64, id: &[u8; 32]) -> Answer<Found>, [n], [image, id];
         allocate(tags: &mut [u8], n: u64, hash: u64) -> Answer<u64>, [n], [tags];
-        reader_set(log: &[u8]) -> Answer<u32>, [], [log];
-        reader_next(log: &[u8], at: u64) -> Answer<(Entry, u64)>, [at], [log];
-        reader_head(log: &[u8], at: u64) -> Answer<Head>, [at], [log];
-        begin(log: &mut [u8], w: Writer, sync: u32) -> Answer<Writer>, [], [log];
-        write_clear(log: &mut [u8], w: Writer, bucket: u64) -> Answer<Writer>, [bucket], [log];
+        reader_set(log: &[u8]) -> Answer<Start>, [], [log];
+        reader_next(log: &[u8], edition: Edition, at: u64) -> Answer<(Entry, u64)>, [at, edition.width()], [log];
+        reader_head(log: &[u8], edition: Edition, at: u64) -> Answer<Head>, [at], [log];
+        begin(log: &mut [u8], w: Writer, start: Start) -> Answer<Writer>, [], [log];
+        write_clear(log: &mut [u8], w: Writer, bucket: u64) -> Answer<Writer>, [bucket, stands(w).0, stands(w).1], [log];
         write_update(log: &mut [u8], w: Writer, id: &[u8; 32], d: Diff, packed: &Packed, elided: &[u8; 8], bucket: u64)
             -> Answer<Writer>, [bucket], [log];
         finish(log: &mut [u8], w: Writer) -> Answer<(u64, Writer)>, [], [log];
         sync_step(lent: &mut Lent, state: State, change: &Change, page: &[u8]) -> Answer<(Step, State)>,
             [lent.n], [lent.tags, lent.marks, lent.log, page];
-        replay(image: &mut [u8], n: u64, log: &[u8], sync: u32, hashes: &[u64]) -> Answer<Replayed>, [n], [image, log];
-        replay_step(image: &mut [u8], n: u64, log: &[u8], at: u64, hash: u64) -> Answer<Stepped>, [n, at], [image, log];
+        replay(image: &mut [u8], n: u64, log: &[u8], sync: u32, seed: &Seed, hashes: &[u64]) -> Answer<Replayed>,
+            [n, sync as u64], [image, log, seed];
+        replay_step(image: &mut [u8], n: u64, log: &[u8], edition: Edition, at: u64, hash: u64) -> Answer<Stepped>,
+            [n, at], [image, log];
         write_marker(old: u32, new: u32) -> Answer<[u8; 16]>, [], [];
         read_marker(bytes: &[u8]) -> Answer<(u32, u32)>, [], [bytes];
         pending(meta: u64, file: u64, old: u64, new: u64) -> Answer<Pending>, [meta, file, old, new], [];
@@ -356,8 +442,8 @@ impl<E: Engine> Engine for Bent<E> {
         list(log: &[u8]) -> String, [], [log];
     }
 
-    fn sync(lent: &mut Lent, writer: &mut Writer, number: u32, changes: &[Change], pages: &[u8]) -> Synced {
-        let said = E::sync(lent, writer, number, changes, pages);
+    fn sync(lent: &mut Lent, writer: &mut Writer, start: Start, changes: &[Change], pages: &[u8]) -> Synced {
+        let said = E::sync(lent, writer, start, changes, pages);
         let mut both = (said, *writer);
         let memory = [&lent.tags[..], &lent.marks[..], &lent.log[..], pages].map(|m| (m.as_ptr() as *mut u8, m.len()));
         bend(sides::<E>(), "sync", &mut both, &[lent.n], &memory);

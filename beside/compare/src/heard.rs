@@ -79,6 +79,14 @@ impl Did {
         }
     }
 
+    /// A log of edition two, which the original refuses as one with no start; and what 02 answers to it.
+    pub fn beyond(self, out: Out) -> Heard {
+        match &self.end {
+            End::Error(error) if number(error) == Some(7) => Heard::Says { did: self, out, departs: None },
+            _ => Heard::Otherwise { did: self, wanted: "an error that stands for 7".to_string() },
+        }
+    }
+
     /// A known departure, where it is this very one; and what 01 answers there.
     pub fn departs(self, how: Departure, wanted: Did, out: Out) -> Heard {
         self.held_to(wanted, Some(how), out)

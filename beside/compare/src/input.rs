@@ -3,6 +3,7 @@
 use crate::rng::{mixed, Rng};
 use model::{
     diff::Diff,
+    edition::{Edition, Seed},
     places::{length_of, page_at, tag_pages_of, ID_AT},
     reader::{CLEAR, END, START, UPDATE},
     PAGE,
@@ -370,6 +371,8 @@ impl fmt::Debug for Record {
 #[derive(Clone, PartialEq, Eq)]
 pub struct Log {
     pub sync: u32,
+    /// The store that it names, in edition two.
+    pub seed: Option<Seed>,
     pub records: Vec<Record>,
     /// Pages of zeros after the last that is needed.
     pub pages_more: usize,
@@ -380,7 +383,16 @@ pub struct Log {
 
 impl Log {
     pub fn new(sync: u32, records: &[Record]) -> Self {
-        Log { sync, records: records.to_vec(), pages_more: 0, changed: vec![], cut: None }
+        Log { sync, seed: None, records: records.to_vec(), pages_more: 0, changed: vec![], cut: None }
+    }
+
+    /// The same log in edition two.
+    pub fn of_store(&self, seed: Seed) -> Self {
+        Log { seed: Some(seed), ..self.clone() }
+    }
+
+    pub fn edition(&self) -> Edition {
+        crate::second::edition(&self.seed)
     }
 
     /// The records' bytes alone.
@@ -394,23 +406,25 @@ impl Log {
     }
 
     fn written_up_to(&self, record: usize) -> Vec<u8> {
-        let mut log = vec![START];
+        let mark = |tag| self.edition().mark(tag);
+        let mut log = mark(START);
         log.extend(self.sync.to_le_bytes());
+        log.extend(self.seed.iter().flatten());
         for r in &self.records[..record] {
             match r {
                 Record::Clear(b) => {
-                    log.push(CLEAR);
+                    log.extend(mark(CLEAR));
                     log.extend(b.to_le_bytes());
                 }
                 Record::Update { label, diff, with, bucket } => {
-                    log.push(UPDATE);
+                    log.extend(mark(UPDATE));
                     log.extend(label.id());
                     log.extend(diff.bytes());
                     let nodes = diff.0 & ((1 << 126) - 1);
                     log.extend(Filler { len: 32 * nodes.count_ones() as usize + 8, with: *with }.bytes());
                     log.extend(bucket.to_le_bytes());
                 }
-                Record::End => log.push(END),
+                Record::End => log.extend(mark(END)),
                 Record::Byte(b) => log.push(*b),
             }
         }
@@ -481,6 +495,9 @@ impl Log {
         for sync in smaller_number(self.sync as u64) {
             out.push(Log { sync: sync as u32, ..self.clone() });
         }
+        if self.seed.is_some_and(|seed| seed != [0; 16]) {
+            out.push(self.of_store([0; 16]));
+        }
         out
     }
 }
@@ -488,6 +505,9 @@ impl Log {
 impl fmt::Debug for Log {
     fn fmt(&self, f: &mut fmt::Formatter) -> fmt::Result {
         write!(f, "log of sync {}: {:?}", self.sync, self.records)?;
+        if let Some(seed) = self.seed {
+            write!(f, ", of edition two with seed {:?}", Bytes(seed.to_vec()))?;
+        }
         if self.pages_more > 0 {
             write!(f, ", {} pages more", self.pages_more)?;
         }
@@ -504,8 +524,9 @@ impl fmt::Debug for Log {
 /// The ids of a log's updates up to the first thing that is no entry, and their hashes.
 pub fn log_hashes(log: &[u8]) -> Vec<u64> {
     let mut hashes = Vec::new();
-    let mut at = model::reader::FIRST;
-    while let Ok((entry, next)) = model::reader::next(log, at) {
+    let edition = Edition::of(log);
+    let mut at = edition.first();
+    while let Ok((entry, next)) = model::reader::next(log, edition, at) {
         match entry {
             model::reader::Entry::End => break,
             model::reader::Entry::Update { id, .. } => hashes.push(hash_of(id)),
@@ -524,6 +545,22 @@ pub fn tags_fit(n: u64, len: usize) -> bool {
 /// The same for an image.
 pub fn image_fits(n: u64, len: usize) -> bool {
     (1..=1 << 20).contains(&n) && len as u64 == 4096 * (n.div_ceil(4096) + n)
+}
+
+/// A store's seed, by chance.
+pub fn any_seed(rng: &mut Rng) -> Seed {
+    match rng.below(8) {
+        0 => [0; 16],
+        1 => [0xB2; 16],
+        _ => rng.wide().to_le_bytes(),
+    }
+}
+
+/// The same seed but for one byte.
+pub fn near(seed: Seed, byte: usize, with: u8) -> Seed {
+    let mut near = seed;
+    near[byte] ^= with;
+    near
 }
 
 /// Numbers nearer to zero.

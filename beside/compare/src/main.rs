@@ -11,6 +11,7 @@ mod ops;
 mod ours;
 mod rng;
 mod run;
+mod second;
 mod vectors;
 
 use faults::{Side, FAULTS};
@@ -32,7 +33,7 @@ type Exhaustive = fn(&mut Run);
 type Random = fn(&mut Run, &mut Rng);
 
 /// The parts by name: all short inputs, inputs by chance, and how often in 100 times the part is taken.
-const PARTS: [(&str, Exhaustive, Random, u64); 11] = [
+const PARTS: [(&str, Exhaustive, Random, u64); 12] = [
     ("diff", ops::diff::exhaustive, ops::diff::random, 20),
     ("tags", ops::tags::exhaustive, ops::tags::random, 10),
     ("places", ops::places::exhaustive, ops::places::random, 5),
@@ -43,6 +44,7 @@ const PARTS: [(&str, Exhaustive, Random, u64); 11] = [
     ("replay", ops::replay::exhaustive, ops::replay::random, 15),
     ("growth", ops::growth::exhaustive, ops::growth::random, 5),
     ("audit", ops::audit::exhaustive, ops::audit::random, 5),
+    ("second", ops::second::exhaustive, ops::second::random, 20),
     ("rounds", ops::rounds::exhaustive, ops::rounds::random, 1),
 ];
 

@@ -5,6 +5,7 @@ use crate::engine::{Engine, Head};
 use model::{
     audit::Audited,
     diff::{Diff, Node, Packed, NODE},
+    edition::{Edition, Seed, Start},
     growth::{Grown, Pending},
     path::{Found, Probed},
     reader::Entry,
@@ -43,10 +44,31 @@ fn packed(p: &Packed) -> bitbox::Packed {
     bitbox::Packed::from_table(p.nodes, p.count as usize)
 }
 
+fn our_edition(e: Edition) -> bitbox::Edition {
+    match e {
+        Edition::One => bitbox::Edition::One,
+        Edition::Two => bitbox::Edition::Two,
+    }
+}
+
+fn edition(e: bitbox::Edition) -> Edition {
+    match e {
+        bitbox::Edition::One => Edition::One,
+        bitbox::Edition::Two => Edition::Two,
+    }
+}
+
+fn our_start(start: Start) -> bitbox::Start {
+    match start.seed {
+        None => bitbox::Start::one(start.sync),
+        Some(seed) => bitbox::Start::two(start.sync, seed),
+    }
+}
+
 fn our_writer(w: Writer) -> bitbox::Writer {
     match w {
         Writer::Fresh => bitbox::Writer::Fresh,
-        Writer::Open(at) => bitbox::Writer::Open(at as usize),
+        Writer::Open(edition, at) => bitbox::Writer::Open(at as usize, our_edition(edition)),
         Writer::Finished(length) => bitbox::Writer::Finished(length as usize),
     }
 }
@@ -54,7 +76,7 @@ fn our_writer(w: Writer) -> bitbox::Writer {
 fn writer(w: bitbox::Writer) -> Writer {
     match w {
         bitbox::Writer::Fresh => Writer::Fresh,
-        bitbox::Writer::Open(at) => Writer::Open(at as u64),
+        bitbox::Writer::Open(at, e) => Writer::Open(edition(e), at as u64),
         bitbox::Writer::Finished(length) => Writer::Finished(length as u64),
     }
 }
@@ -86,9 +108,16 @@ fn kept<T>(before: Writer, after: bitbox::Writer, said: Result<T, bitbox::Refusa
     answer(said, |value| (value, writer(after)))
 }
 
+/// A log's first byte alone tells its edition and where its first entry stands.
+fn told(log: &[u8]) {
+    let told = edition(bitbox::Edition::of(log));
+    let first = bitbox::first_entry(log) as u64;
+    assert!((told, first) == (Edition::of(log), told.first()), "the edition is {told:?}, the first entry at {first}");
+}
+
 /// An entry that is lent out of its log is the one that is copied.
-fn seen(log: &[u8], at: usize) {
-    let same = match (bitbox::see_entry(log, at), bitbox::read_entry(log, at)) {
+fn seen(log: &[u8], at: usize, edition: bitbox::Edition) {
+    let same = match (bitbox::see_entry(log, at, edition), bitbox::read_entry(log, at, edition)) {
         (Err(lent), Err(copied)) => lent == copied,
         (Ok((lent, next)), Ok((copied, after))) => {
             next == after
@@ -228,13 +257,17 @@ impl Engine for Ours {
         answer(bitbox::allocate(tags, n as usize, hash), |bucket| bucket)
     }
 
-    fn reader_set(log: &[u8]) -> Answer<u32> {
-        answer(bitbox::Reader::new(log), |reader| reader.sync_seqn())
+    fn reader_set(log: &[u8]) -> Answer<Start> {
+        told(log);
+        answer(bitbox::Reader::new(log), |reader| {
+            assert!(reader.position() == bitbox::first_entry(log), "a reader stands at the first entry");
+            Start { sync: reader.sync_seqn(), seed: reader.seed() }
+        })
     }
 
-    fn reader_next(log: &[u8], at: u64) -> Answer<(Entry, u64)> {
-        seen(log, at as usize);
-        answer(bitbox::read_entry(log, at as usize), |(entry, next)| {
+    fn reader_next(log: &[u8], e: Edition, at: u64) -> Answer<(Entry, u64)> {
+        seen(log, at as usize, our_edition(e));
+        answer(bitbox::read_entry(log, at as usize, our_edition(e)), |(entry, next)| {
             let entry = match entry {
                 bitbox::Entry::End => Entry::End,
                 bitbox::Entry::Clear { bucket } => Entry::Clear { bucket },
@@ -249,17 +282,17 @@ impl Engine for Ours {
         })
     }
 
-    fn reader_head(log: &[u8], at: u64) -> Answer<Head> {
-        answer(bitbox::read_head(log, at as usize), |head| match head {
+    fn reader_head(log: &[u8], e: Edition, at: u64) -> Answer<Head> {
+        answer(bitbox::read_head(log, at as usize, our_edition(e)), |head| match head {
             bitbox::Head::End => [0; 4],
             bitbox::Head::Clear { bucket, next } => [1, bucket, 0, next as u64],
             bitbox::Head::Update { bucket, count, next } => [2, bucket, count as u64, next as u64],
         })
     }
 
-    fn begin(log: &mut [u8], w: Writer, sync: u32) -> Answer<Writer> {
+    fn begin(log: &mut [u8], w: Writer, start: Start) -> Answer<Writer> {
         let mut after = our_writer(w);
-        let said = after.begin(log, sync);
+        let said = after.begin(log, our_start(start));
         kept(w, after, said).map(|((), after)| after)
     }
 
@@ -302,10 +335,10 @@ impl Engine for Ours {
         answer(said, |step| (Step { bucket: step.bucket, page: step.page }, after))
     }
 
-    fn sync(lent: &mut Lent, w: &mut Writer, number: u32, changes: &[Change], pages: &[u8]) -> Synced {
+    fn sync(lent: &mut Lent, w: &mut Writer, start: Start, changes: &[Change], pages: &[u8]) -> Synced {
         let records: Vec<bitbox::Change> = changes.iter().map(change).collect();
         let mut after = our_writer(*w);
-        let said = bitbox::sync(&mut our_lent(lent), &mut after, number, &records, pages);
+        let said = bitbox::sync(&mut our_lent(lent), &mut after, our_start(start), &records, pages);
         assert!(black_box(&records).iter().copied().eq(changes.iter().map(change)), "changes are only read");
         *w = writer(after);
         match said {
@@ -317,16 +350,17 @@ impl Engine for Ours {
         }
     }
 
-    fn replay(image: &mut [u8], n: u64, log: &[u8], sync: u32, hashes: &[u64]) -> Answer<Replayed> {
-        answer(bitbox::replay(image, n as usize, log, sync, hashes), |replayed| match replayed {
+    fn replay(image: &mut [u8], n: u64, log: &[u8], sync: u32, seed: &Seed, hashes: &[u64]) -> Answer<Replayed> {
+        answer(bitbox::replay(image, n as usize, log, sync, seed, hashes), |replayed| match replayed {
             bitbox::Replayed::Nothing => Replayed::Nothing,
             bitbox::Replayed::Stale => Replayed::Stale,
             bitbox::Replayed::Applied => Replayed::Applied,
         })
     }
 
-    fn replay_step(image: &mut [u8], n: u64, log: &[u8], at: u64, hash: u64) -> Answer<Stepped> {
-        answer(bitbox::replay_step(image, n as usize, log, at as usize, hash), |stepped| match stepped {
+    fn replay_step(image: &mut [u8], n: u64, log: &[u8], e: Edition, at: u64, hash: u64) -> Answer<Stepped> {
+        let said = bitbox::replay_step(image, n as usize, log, our_edition(e), at as usize, hash);
+        answer(said, |stepped| match stepped {
             bitbox::Stepped::End => Stepped::End,
             bitbox::Stepped::Cleared { next } => Stepped::Cleared { next: next as u64 },
             bitbox::Stepped::Updated { next } => Stepped::Updated { next: next as u64 },

@@ -199,8 +199,9 @@ struct Tally {
     notes: BTreeMap<&'static str, u64>,
 }
 
-/// The refusals that document 01 gives each operation: of the call, and of a sync at a change.
-const REFUSALS: [(&str, &[u8], &[u8]); 34] = [
+/// The refusals that document 01 gives each operation, of the call, and of a sync at a change; those on a log of
+/// edition two are rows of their own.
+const REFUSALS: [(&str, &[u8], &[u8]); 46] = [
     ("diff read", &[4], &[]),
     ("diff set", &[3], &[]),
     ("diff ask", &[3], &[]),
@@ -235,6 +236,18 @@ const REFUSALS: [(&str, &[u8], &[u8]); 34] = [
     ("pending", &[1, 17, 18], &[]),
     ("growth", &[1, 2, 10, 11, 19], &[]),
     ("audit", &[1, 2, 20, 21, 22, 23, 24], &[]),
+    ("reader set two", &[5, 6, 7], &[]),
+    ("reader next two", &[4, 6, 8], &[]),
+    ("reader walk two", &[4, 5, 6, 7, 8], &[]),
+    ("list two", &[2, 4, 5, 6, 7, 8], &[]),
+    ("writer begin two", &[13], &[]),
+    ("writer clear two", &[12, 13], &[]),
+    ("writer update two", &[2, 4, 12, 13], &[]),
+    ("writer finish two", &[12, 13], &[]),
+    ("sync two", &[1, 2, 13], &[2, 4, 9, 10, 11, 13, 14]),
+    ("sync step two", &[1, 2, 4, 9, 10, 11, 13, 14], &[]),
+    ("replay two", &[1, 2, 4, 5, 6, 7, 8, 9, 26], &[]),
+    ("replay step two", &[1, 4, 6, 8, 9], &[]),
 ];
 
 /// When a run ends.

@@ -1,7 +1,9 @@
 //! Reading off a log: "The program `list` reads a log of at most 65,536 bytes on standard input
 //! (longer: `0 refused 2`; none: `empty`). Each line is byte offset of the record, kind, fields."
+//! A log of edition two has the same lines; the offset is that of its mark's first byte.
 
 use crate::{
+    edition::Edition,
     reader::{self, Entry},
     Refused,
 };
@@ -18,12 +20,13 @@ pub fn list(log: &[u8]) -> String {
     }
     let mut lines = String::new();
     match reader::set(log) {
-        Ok(sync) => writeln!(lines, "0 start {sync}").unwrap(),
+        Ok(start) => writeln!(lines, "0 start {}", start.sync).unwrap(),
         Err(Refused(number)) => return format!("0 refused {number}\n"),
     }
-    let mut at = reader::FIRST;
+    let edition = Edition::of(log);
+    let mut at = edition.first();
     loop {
-        match reader::next(log, at) {
+        match reader::next(log, edition, at) {
             Ok((Entry::Clear { bucket }, next)) => {
                 writeln!(lines, "{at} clear {bucket}").unwrap();
                 at = next;

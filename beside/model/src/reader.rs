@@ -4,6 +4,7 @@
 
 use crate::{
     diff::{self, Diff, Node},
+    edition::{Edition, Start, SECOND},
     unless, Answer, Refused, PAGE,
 };
 
@@ -11,9 +12,6 @@ pub const START: u8 = 1;
 pub const END: u8 = 2;
 pub const CLEAR: u8 = 3;
 pub const UPDATE: u8 = 4;
-
-/// Where the first entry stands.
-pub const FIRST: u64 = 5;
 
 #[derive(Clone, Debug, PartialEq, Eq)]
 pub enum Entry {
@@ -23,18 +21,30 @@ pub enum Entry {
 }
 
 /// "Setting it reads the start and gives the sync number." In order: 5, then 6 for an empty log, 7.
-pub fn set(log: &[u8]) -> Answer<u32> {
+/// "A 0xB2 not followed by 1 is 7."
+pub fn set(log: &[u8]) -> Answer<Start> {
     unless(log.len() % PAGE == 0, 5)?;
     unless(!log.is_empty(), 6)?;
-    unless(log[0] == START, 7)?;
-    Ok(u32::from_le_bytes(log[1..5].try_into().unwrap()))
+    let edition = Edition::of(log);
+    let mut left = log.strip_prefix(&edition.mark(START)[..]).ok_or(Refused(7))?;
+    let sync = u32::from_le_bytes(take(&mut left)?);
+    let seed = match edition {
+        Edition::One => None,
+        Edition::Two => Some(take(&mut left)?),
+    };
+    Ok(Start { sync, seed })
 }
 
 /// The entry at a position, and the position after it. "Each entry is taken apart or the reading stops
 /// there, position unchanged", and "after end it answers end again": the position after end is end's.
-/// In an update: 6 up to the diff, 4, 6.
-pub fn next(log: &[u8], at: u64) -> Answer<(Entry, u64)> {
+/// In an update: 6 up to the diff, 4, 6. In edition two: "for a mark whose first byte isn't 0xB2 the number is 8, at
+/// the log's last byte too; a 0xB2 as the last byte there is 6."
+pub fn next(log: &[u8], edition: Edition, at: u64) -> Answer<(Entry, u64)> {
     let mut left = usize::try_from(at).ok().and_then(|at| log.get(at..)).ok_or(Refused(6))?;
+    if edition == Edition::Two {
+        let [first] = take(&mut left)?;
+        unless(first == SECOND, 8)?;
+    }
     let [tag] = take(&mut left)?;
     let entry = match tag {
         END => return Ok((Entry::End, at)),

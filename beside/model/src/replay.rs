@@ -3,6 +3,7 @@
 
 use crate::{
     diff::NODE,
+    edition::{Edition, Seed},
     places::{image_fits, page_at, ELIDED_AT, ID_AT},
     reader::{self, Entry},
     tags::{full_tag, TOMBSTONE},
@@ -16,16 +17,21 @@ pub enum Replayed {
     Applied,
 }
 
-/// In order: 1, nothing, 5, 7, stale, then the first bad entry, last the hash count 2.
-pub fn replay(image: &mut [u8], n: u64, log: &[u8], sync: u32, hashes: &[u64]) -> Answer<Replayed> {
+/// In order: 1, nothing, 5, 7, 26, stale, then the first bad entry, last the hash count 2. "Replay is lent the
+/// table's seed and refuses another store's log"; a log of edition one names none.
+pub fn replay(image: &mut [u8], n: u64, log: &[u8], sync: u32, seed: &Seed, hashes: &[u64]) -> Answer<Replayed> {
     image_fits(image, n)?;
     if log.is_empty() {
         return Ok(Replayed::Nothing);
     }
-    if reader::set(log)? != sync {
+    let start = reader::set(log)?;
+    if let Some(named) = start.seed {
+        unless(named == *seed, 26)?;
+    }
+    if start.sync != sync {
         return Ok(Replayed::Stale);
     }
-    let entries = entries(log, n)?;
+    let entries = entries(log, start.edition(), n)?;
     let updates = entries.iter().filter(|e| matches!(e, Entry::Update { .. })).count();
     unless(hashes.len() == updates, 2)?;
 
@@ -40,11 +46,11 @@ pub fn replay(image: &mut [u8], n: u64, log: &[u8], sync: u32, hashes: &[u64]) -
 }
 
 /// The entries of a log that begins with a start, each with a bucket below n.
-fn entries(log: &[u8], n: u64) -> Answer<Vec<Entry>> {
+fn entries(log: &[u8], edition: Edition, n: u64) -> Answer<Vec<Entry>> {
     let mut entries = Vec::new();
-    let mut at = reader::FIRST;
+    let mut at = edition.first();
     loop {
-        let (entry, next) = entry(log, n, at)?;
+        let (entry, next) = entry(log, edition, n, at)?;
         if entry == Entry::End {
             return Ok(entries);
         }
@@ -53,8 +59,8 @@ fn entries(log: &[u8], n: u64) -> Answer<Vec<Entry>> {
     }
 }
 
-fn entry(log: &[u8], n: u64, at: u64) -> Answer<(Entry, u64)> {
-    let (entry, next) = reader::next(log, at)?;
+fn entry(log: &[u8], edition: Edition, n: u64, at: u64) -> Answer<(Entry, u64)> {
+    let (entry, next) = reader::next(log, edition, at)?;
     if let Entry::Clear { bucket } | Entry::Update { bucket, .. } = entry {
         unless(bucket < n, 9)?;
     }
@@ -86,9 +92,9 @@ pub enum Stepped {
 }
 
 /// One entry of a log, applied: "each entry is applied by one step". In order: 1, the entry's.
-pub fn step(image: &mut [u8], n: u64, log: &[u8], at: u64, hash: u64) -> Answer<Stepped> {
+pub fn step(image: &mut [u8], n: u64, log: &[u8], edition: Edition, at: u64, hash: u64) -> Answer<Stepped> {
     image_fits(image, n)?;
-    let (entry, next) = entry(log, n, at)?;
+    let (entry, next) = entry(log, edition, n, at)?;
     apply(image, n, &entry, hash);
     Ok(match entry {
         Entry::Clear { .. } => Stepped::Cleared { next },

@@ -4,6 +4,7 @@
 
 use crate::{
     diff::{pack, Diff},
+    edition::Start,
     path::find,
     places::{page_number, tag_pages_of, tags_fit, ELIDED_AT, ID_AT},
     tags::{full_count, full_tag, kind, page_index, Kind, TOMBSTONE},
@@ -58,7 +59,7 @@ pub fn step(lent: &mut Lent, state: State, change: &Change, page: &[u8]) -> Answ
     tags_fit(tags, n)?;
     unless(page.len() == PAGE, 2)?;
     unless(marks.len() as u64 == tag_pages_of(n), 2)?;
-    let at = writer::position(state.writer)?;
+    let (edition, at) = writer::position(state.writer)?;
 
     let d = change.diff;
     unless(!d.marks(126), 4)?;
@@ -87,7 +88,7 @@ pub fn step(lent: &mut Lent, state: State, change: &Change, page: &[u8]) -> Answ
     if let Some(b) = stands {
         unless(tags[b as usize] == full_tag(change.hash), 14)?;
     }
-    writer::room(log, at, writer::update_size(d))?;
+    writer::room(log, edition, at, edition.update_size(d.count()))?;
     let mut occupied = state.occupied;
     let bucket = match stands {
         Some(b) => b,
@@ -123,13 +124,13 @@ pub enum Synced {
 }
 
 /// The whole sync. In order: 1, 2 unless there are 4,096 page bytes per record and M marks, 13 for
-/// begin; then each change.
-pub fn sync(lent: &mut Lent, writer: &mut Writer, number: u32, changes: &[Change], pages: &[u8]) -> Synced {
+/// begin; then each change. A start of either edition begins its log.
+pub fn sync(lent: &mut Lent, writer: &mut Writer, start: Start, changes: &[Change], pages: &[u8]) -> Synced {
     let begun = (|| {
         tags_fit(lent.tags, lent.n)?;
         unless(pages.len() == PAGE * changes.len(), 2)?;
         unless(lent.marks.len() as u64 == tag_pages_of(lent.n), 2)?;
-        let writer = writer::begin(lent.log, number)?;
+        let writer = writer::begin(lent.log, start)?;
         Ok(State { writer, occupied: full_count(lent.tags, lent.n)? })
     })();
     let mut state = match begun {

@@ -1,6 +1,6 @@
 //! 01's "Checked by hand".
 
-use model::{diff::*, growth::*, path::*, reader, replay::*, tags::*, writer, writer::Writer, Refused};
+use model::{diff::*, edition::Start, growth::*, path::*, reader, replay::*, tags::*, writer, writer::Writer, Refused};
 
 fn tags(first: &[u8]) -> Vec<u8> {
     let mut tags = vec![0; 4096];
@@ -63,25 +63,25 @@ fn markers() {
 #[test]
 fn clears_that_fit() {
     let mut log = vec![0; 4096];
-    let mut w = writer::begin(&mut log, 7).unwrap();
+    let mut w = writer::begin(&mut log, Start::one(7)).unwrap();
     for b in 0..454 {
         w = writer::clear(&mut log, w, b).unwrap();
     }
     assert_eq!(writer::clear(&mut log, w, 454), Err(Refused(13)));
     assert_eq!(writer::finish(&mut log, w), Ok((4096, Writer::Finished(4096))));
-    assert_eq!(reader::set(&log), Ok(7));
+    assert_eq!(reader::set(&log), Ok(Start::one(7)));
 }
 
 #[test]
 fn one_clear_replayed() {
     let mut log = vec![0; 4096];
-    let w = writer::begin(&mut log, 7).unwrap();
+    let w = writer::begin(&mut log, Start::one(7)).unwrap();
     let w = writer::clear(&mut log, w, 0).unwrap();
     writer::finish(&mut log, w).unwrap();
     let mut image = vec![0; 8192];
-    assert_eq!(replay(&mut image, 1, &log, 8, &[]), Ok(Replayed::Stale));
+    assert_eq!(replay(&mut image, 1, &log, 8, &[9; 16], &[]), Ok(Replayed::Stale));
     assert_eq!(image[0], 0);
-    assert_eq!(replay(&mut image, 1, &log, 7, &[]), Ok(Replayed::Applied));
+    assert_eq!(replay(&mut image, 1, &log, 7, &[9; 16], &[]), Ok(Replayed::Applied));
     assert_eq!(image[0], 0x7F);
 }
 
@@ -89,7 +89,7 @@ fn one_clear_replayed() {
 fn listed() {
     let mut log = vec![0; 4096];
     let d = Diff(0b101);
-    let w = writer::begin(&mut log, 7).unwrap();
+    let w = writer::begin(&mut log, Start::one(7)).unwrap();
     let w = writer::clear(&mut log, w, 3).unwrap();
     let packed = pack(d, &[0; 4096]).unwrap();
     let w = writer::update(&mut log, w, &[0; 32], d, &packed, &[0; 8], 9).unwrap();

@@ -9,6 +9,7 @@ pub mod prepare;
 pub mod read;
 pub mod replay;
 pub mod rounds;
+pub mod second;
 pub mod sync;
 pub mod tags;
 pub mod write;

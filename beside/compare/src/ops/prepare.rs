@@ -10,9 +10,11 @@ use crate::{
         tags::{no_pages, FULL_COUNT},
     },
     run::{page_bytes, u64_bytes},
+    second::{edition, more, retold},
 };
 use model::{
     diff::NODE,
+    edition::{Edition, Seed},
     sync::{Change, Place, UNSET},
     tags::{full_tag, TOMBSTONE},
     PAGE,
@@ -88,13 +90,19 @@ impl<'a> Theirs<'a> {
         self.map.tags()
     }
 
+    /// Where the next record stands in the edition that names a store, or in the first.
+    pub fn position(&self, seed: &Option<Seed>) -> u64 {
+        retold(&self.log, seed).len() as u64
+    }
+
     /// The full buckets as the changes leave them.
     pub fn full(&self) -> u64 {
         self.occupied.wrapping_add_signed(self.moved)
     }
 
-    /// The number that 01 refuses a change with before it looks for a bucket, for records at a position in a room.
-    pub fn refusal(&self, c: &Change, at: u64, room: u64) -> Option<u8> {
+    /// The number that 01 refuses a change with before it looks for a bucket, for records of an edition at a position
+    /// in a room.
+    pub fn refusal(&self, c: &Change, edition: Edition, at: u64, room: u64) -> Option<u8> {
         let d = c.diff.0;
         let tags = self.tags();
         if d >> 126 & 1 == 1 {
@@ -122,7 +130,9 @@ impl<'a> Theirs<'a> {
             return Some(14);
         }
         let size = if cleared { 9 } else { 65 + 32 * d.count_ones() as u128 };
-        (at as u128 + size + 1 > room as u128).then_some(13)
+        // The record's mark and that of end.
+        let marks = 1 + 2 * more(edition) as u128;
+        (at as u128 + size + marks > room as u128).then_some(13)
     }
 
     /// A change, taken by the original: its bucket.
@@ -286,11 +296,18 @@ pub fn departure(number: u8, c: &Change, stop: Option<&Stop>, moved: i64) -> Opt
     })
 }
 
-/// How far a sync goes by 01's rules and the original's own path: the change that is refused, and its number.
-pub fn foreseen(n: u64, tags: &[u8], cells: &[u64], changes: &[Change], pages: &[u8], room: u64) -> Option<(u64, u8)> {
+/// How far a sync in a room, in the edition that names a store or in the first, goes by 01's rules and the original's
+/// own path: the change that is refused, and its number.
+pub fn foreseen(
+    (n, tags): (u64, &[u8]),
+    cells: &[u64],
+    changes: &[Change],
+    pages: &[u8],
+    (room, seed): (u64, &Option<Seed>),
+) -> Option<(u64, u8)> {
     let mut theirs = Theirs::new(n, tags, cells, 0).ok()?;
     for (j, (c, page)) in changes.iter().zip(pages.chunks(PAGE)).enumerate() {
-        if let Some(number) = theirs.refusal(c, theirs.log.len() as u64, room) {
+        if let Some(number) = theirs.refusal(c, edition(seed), theirs.position(seed), room) {
             return Some((j as u64, number));
         }
         match theirs.step(c, page) {

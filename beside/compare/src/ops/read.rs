@@ -7,8 +7,14 @@ use crate::{
     input::{any_diff, good_diff, smaller_number, words, Label, Log, Record},
     rng::Rng,
     run::{Op, Out, Run},
+    second::{is_second, seed_of, FIRST},
 };
-use model::{diff::Diff, reader::Entry, PAGE};
+use model::{
+    diff::Diff,
+    edition::{Edition, Start, SECOND},
+    reader::Entry,
+    PAGE,
+};
 use original::log as o;
 
 pub struct ReadOp;
@@ -16,14 +22,24 @@ pub struct ReadOp;
 #[derive(Clone, Debug)]
 pub enum Input {
     Set(Log),
-    /// The entry at a position.
-    Next(Log, u64),
+    /// The entry at a position, read as one of an edition.
+    Next(Log, Edition, u64),
     /// Set, then entry after entry up to end or a refusal, and once more.
     Walk(Log),
     List(Log),
 }
 
 use Input::*;
+
+impl Input {
+    /// The edition that it is read in, by which its row is named.
+    fn edition(&self) -> Edition {
+        match self {
+            Next(_, edition, _) => *edition,
+            Set(log) | Walk(log) | List(log) => log.edition(),
+        }
+    }
+}
 
 /// An entry and the position after it, as bytes.
 fn entry_bytes(entry: &Entry, after: u64) -> Vec<u8> {
@@ -63,6 +79,19 @@ fn head_bytes(head: model::Answer<Head>) -> Vec<u8> {
         Ok(words) => words.into_iter().flat_map(u64::to_le_bytes).collect(),
         Err(why) => vec![why.0],
     }
+}
+
+/// What a start says.
+fn start_told(start: Start) -> Out {
+    let out = Out::value("sync", &[start.sync as u64]);
+    match start.seed {
+        None => out,
+        Some(seed) => out.with("seed", seed),
+    }
+}
+
+fn start_bytes(start: Start) -> Vec<u8> {
+    [&start.sync.to_le_bytes()[..], start.seed.as_ref().map_or(&[], |seed| &seed[..])].concat()
 }
 
 fn entry_told(entry: &Entry, after: u64) -> (&'static str, Vec<u64>) {
@@ -124,6 +153,90 @@ fn read_before_error(log: &[u8], at: u64) -> u64 {
     read as u64
 }
 
+/// Where the original's entry stands: in edition two behind its mark's first byte, if it has one.
+fn behind(log: &[u8], edition: Edition, at: u64) -> Option<u64> {
+    match (edition, usize::try_from(at).ok().and_then(|at| log.get(at))) {
+        (Edition::Two, Some(&SECOND)) => Some(at + 1),
+        (Edition::Two, Some(_)) => None,
+        _ => Some(at),
+    }
+}
+
+/// A log of edition two as the original reads its entries: each with its position and the one after it; and where
+/// and with what number the reading stops, if not at end.
+struct Second {
+    start: Start,
+    entries: Vec<(u64, Entry, u64)>,
+    stop: Option<(u64, u8)>,
+}
+
+fn second(log: &[u8]) -> Result<Second, String> {
+    let mut reader = o::Reader::at(log, 1);
+    reader.read_start().map_err(|trouble| format!("its start: {trouble:?}"))?;
+    let start = Start { sync: reader.sync_seqn(), seed: Some(seed_of(log)) };
+    let mut read = Second { start, entries: vec![], stop: None };
+    let mut at = FIRST as u64;
+    loop {
+        let Some(there) = behind(log, Edition::Two, at) else {
+            return Ok(Second { stop: Some((at, 8)), ..read });
+        };
+        reader.put(there as usize);
+        match original_next(&mut reader, log, there)? {
+            Ok((Entry::End, _)) => {
+                read.entries.push((at, Entry::End, at));
+                return Ok(read);
+            }
+            Ok((entry, after)) => {
+                read.entries.push((at, entry, after));
+                at = after;
+            }
+            Err(original::Trouble::Error(error)) => {
+                return Ok(Second { stop: Some((at, number(&error).unwrap_or(0))), ..read });
+            }
+            Err(other) => return Err(format!("{other:?}")),
+        }
+    }
+}
+
+/// What reading entry after entry comes to.
+fn second_walk(read: &Second) -> Out {
+    let mut walked = start_bytes(read.start);
+    for (_, entry, after) in &read.entries {
+        walked.extend(entry_bytes(entry, *after));
+        walked.extend(head_bytes(Ok(head_of(entry, *after))));
+    }
+    let out = match (read.stop, read.entries.last()) {
+        (Some((_, number)), _) => Out::refused(number),
+        (None, end) => Out::value("end", &[end.map_or(0, |(at, ..)| *at), 1]),
+    };
+    out.with("walk", walked)
+}
+
+/// The lines of `list`: as those of edition one, and each offset that of a mark's first byte.
+fn second_list(read: &Second) -> Out {
+    let mut lines = format!("0 start {}\n", read.start.sync);
+    for (at, entry, _) in &read.entries {
+        lines += &match entry {
+            Entry::Clear { bucket } => format!("{at} clear {bucket}\n"),
+            Entry::Update { bucket, nodes, .. } => format!("{at} update {bucket} {}\n", nodes.len()),
+            Entry::End => format!("{at} end\n"),
+        };
+    }
+    match read.stop {
+        Some((at, number)) => Out::refused(number).with("lines", format!("{lines}{at} refused {number}\n")),
+        None => Out::value("listed", &[]).with("lines", lines),
+    }
+}
+
+/// A log of edition two, which the original refuses with 7; beside it what its own reader makes of the entries.
+fn beyond_original(log: &[u8], out: impl FnOnce(&Second) -> Out) -> Heard {
+    let did = Did::of(set_reader(log), |r| Did::value("sync", &[r.sync_seqn() as u64]));
+    match second(log) {
+        Ok(read) => did.beyond(out(&read)),
+        Err(said) => Heard::Held(Err(said)),
+    }
+}
+
 /// The lines that `list` should write, from the original's reader. It lists an error by the number that it stands for.
 fn original_list(log: &[u8]) -> Did {
     let refused = |lines: String, at: usize, trouble: original::Trouble| {
@@ -178,11 +291,15 @@ impl Op for ReadOp {
     type Input = Input;
 
     fn name(input: &Input) -> &'static str {
-        match input {
-            Set(..) => "reader set",
-            Next(..) => "reader next",
-            Walk(..) => "reader walk",
-            List(..) => "list",
+        match (input, input.edition()) {
+            (Set(..), Edition::One) => "reader set",
+            (Set(..), Edition::Two) => "reader set two",
+            (Next(..), Edition::One) => "reader next",
+            (Next(..), Edition::Two) => "reader next two",
+            (Walk(..), Edition::One) => "reader walk",
+            (Walk(..), Edition::Two) => "reader walk two",
+            (List(..), Edition::One) => "list",
+            (List(..), Edition::Two) => "list two",
         }
     }
 
@@ -190,12 +307,12 @@ impl Op for ReadOp {
         match input {
             Set(log) => {
                 let log = log.bytes();
-                Out::of(E::reader_set(&log), |sync| Out::value("sync", &[sync as u64])).reading("log", log)
+                Out::of(E::reader_set(&log), start_told).reading("log", log)
             }
-            Next(log, at) => {
+            Next(log, edition, at) => {
                 let log = log.bytes();
-                let head = head_bytes(E::reader_head(&log, *at));
-                let out = Out::of(E::reader_next(&log, *at), |(entry, after)| {
+                let head = head_bytes(E::reader_head(&log, *edition, *at));
+                let out = Out::of(E::reader_next(&log, *edition, *at), |(entry, after)| {
                     let (name, values) = entry_told(&entry, after);
                     Out::value(name, &values).with("entry", entry_bytes(&entry, after))
                 });
@@ -203,26 +320,27 @@ impl Op for ReadOp {
             }
             Walk(log) => {
                 let log = log.bytes();
-                let sync = match E::reader_set(&log) {
-                    Ok(sync) => sync,
+                let start = match E::reader_set(&log) {
+                    Ok(start) => start,
                     Err(why) => return Out::refused(why.0).reading("log", log),
                 };
-                let mut walked = sync.to_le_bytes().to_vec();
-                let mut at = model::reader::FIRST;
+                let mut walked = start_bytes(start);
+                let edition = start.edition();
+                let mut at = edition.first();
                 loop {
-                    match E::reader_next(&log, at) {
+                    match E::reader_next(&log, edition, at) {
                         Ok((entry, after)) => {
                             walked.extend(entry_bytes(&entry, after));
-                            walked.extend(head_bytes(E::reader_head(&log, at)));
+                            walked.extend(head_bytes(E::reader_head(&log, edition, at)));
                             if entry == Entry::End {
-                                let again = E::reader_next(&log, after) == Ok((Entry::End, after));
+                                let again = E::reader_next(&log, edition, after) == Ok((Entry::End, after));
                                 let out = Out::value("end", &[at, again as u64]);
                                 return out.with("walk", walked).reading("log", log);
                             }
                             at = after;
                         }
                         Err(why) => {
-                            if E::reader_head(&log, at) != Err(why) {
+                            if E::reader_head(&log, edition, at) != Err(why) {
                                 walked.extend(b"another head");
                             }
                             return Out::refused(why.0).with("walk", walked).reading("log", log);
@@ -244,12 +362,20 @@ impl Op for ReadOp {
 
     fn original(input: &Input) -> Heard {
         match input {
-            Set(log) => Did::of(o::Reader::new(&log.bytes()), |r| Did::value("sync", &[r.sync_seqn() as u64])).plain(),
-            Next(log, at) => {
+            Set(log) => {
                 let log = log.bytes();
-                let mut reader = o::Reader::at(&log, *at as usize);
-                match heard("reader next", &[*at], original_next(&mut reader, &log, *at)) {
+                if is_second(&log) {
+                    return beyond_original(&log, |read| start_told(read.start));
+                }
+                Did::of(o::Reader::new(&log), |r| Did::value("sync", &[r.sync_seqn() as u64])).plain()
+            }
+            Next(log, edition, at) => {
+                let log = log.bytes();
+                let Some(there) = behind(&log, *edition, *at) else { return Heard::NotAsked };
+                let mut reader = o::Reader::at(&log, there as usize);
+                match heard("reader next", &[there], original_next(&mut reader, &log, there)) {
                     Ok(Ok((entry, after))) => {
+                        let after = if entry == Entry::End { *at } else { after };
                         let (name, values) = entry_told(&entry, after);
                         let head = head_bytes(Ok(head_of(&entry, after)));
                         Did::value(name, &values).with("entry", entry_bytes(&entry, after)).with("head", head).plain()
@@ -260,6 +386,9 @@ impl Op for ReadOp {
             }
             Walk(log) => {
                 let log = log.bytes();
+                if is_second(&log) {
+                    return beyond_original(&log, second_walk);
+                }
                 let mut reader = match set_reader(&log) {
                     Ok(reader) => reader,
                     Err(trouble) => return Did::of(Err::<(), _>(trouble), |()| Did::value("", &[])).plain(),
@@ -286,6 +415,9 @@ impl Op for ReadOp {
                 if log.is_empty() || log.len() > model::list::MOST {
                     return Heard::NotAsked;
                 }
+                if is_second(&log) {
+                    return beyond_original(&log, second_list);
+                }
                 original_list(&log).plain()
             }
         }
@@ -296,15 +428,15 @@ impl Op for ReadOp {
             Set(l) => l.smaller().into_iter().map(Set).collect(),
             Walk(l) => l.smaller().into_iter().map(Walk).collect(),
             List(l) => l.smaller().into_iter().map(List).collect(),
-            Next(l, at) => {
-                let logs = l.smaller().into_iter().map(|l| Next(l, *at));
-                logs.chain(smaller_number(*at).into_iter().map(|at| Next(l.clone(), at))).collect()
+            Next(l, edition, at) => {
+                let logs = l.smaller().into_iter().map(|l| Next(l, *edition, *at));
+                logs.chain(smaller_number(*at).into_iter().map(|at| Next(l.clone(), *edition, at))).collect()
             }
         }
     }
 }
 
-fn update(diff: u128, bucket: u64) -> Record {
+pub fn update(diff: u128, bucket: u64) -> Record {
     Record::Update { label: Label { hash: 0x1234_5678 ^ bucket, free: 1 }, diff: Diff(diff), with: 7, bucket }
 }
 
@@ -380,7 +512,7 @@ pub fn cut_at(left: usize, record: Record) -> Option<Log> {
 pub fn changed_bytes(log: &Log) -> impl Iterator<Item = Log> + '_ {
     let used = log.used();
     let len = log.bytes().len();
-    let values: &[u8] = if used < 600 { &EVERY } else { &[0, 1, 2, 3, 4, 0x40, 0x80, 0xFF] };
+    let values: &[u8] = if used < 600 { &EVERY } else { &[0, 1, 2, 3, 4, 0x40, 0x80, 0xB2, 0xFF] };
     let all = (0..used + 2).flat_map(|at| values.iter().map(move |&b| (at, b)));
     let some = (used + 2..len).step_by(97).flat_map(|at| [1, 2, 3, 4, 255].map(|b| (at, b)));
     all.chain(some).map(|change| Log { changed: vec![change], ..log.clone() })
@@ -427,7 +559,7 @@ pub fn exhaustive(run: &mut Run) {
         }
         let len = log.bytes().len() as u64;
         for at in (0..len + 3).chain([1 << 32, u64::MAX - 60, u64::MAX]) {
-            run.case::<ReadOp>(Next(log.clone(), at));
+            run.case::<ReadOp>(Next(log.clone(), Edition::One, at));
         }
     }
     // A record cut after each of its bytes.
@@ -506,7 +638,7 @@ pub fn random(run: &mut Run, rng: &mut Rng) {
         0 => run.case::<ReadOp>(Set(log)),
         1 => {
             let at = if rng.once_in(10) { rng.number() } else { rng.below(log.used() as u64 + 4) };
-            run.case::<ReadOp>(Next(log, at));
+            run.case::<ReadOp>(Next(log, Edition::One, at));
         }
         2 => run.case::<ReadOp>(List(log)),
         _ => run.case::<ReadOp>(Walk(log)),

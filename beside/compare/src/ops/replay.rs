@@ -6,7 +6,8 @@ use crate::{
     faults::heard,
     heard::{number, outside, Did, End, Heard},
     input::{
-        any_count, any_tags, hash_of, hash_seed, image_fits, log_hashes, smaller_number, Label, Log, Record, Table,
+        any_count, any_tags, hash_of, hash_seed, image_fits, log_hashes, smaller_number, Bytes, Label, Log, Record,
+        Table,
     },
     ops::{
         places::wrong_length,
@@ -14,9 +15,11 @@ use crate::{
     },
     rng::{mixed, Rng},
     run::{u64_bytes, Op, Out, Run, Said},
+    second::{is_second, seed_of, told_back},
 };
 use model::{
     diff::{Diff, NODE},
+    edition::{Edition, Seed, SECOND},
     replay::{Replayed, Stepped},
     tags::{full_tag, TOMBSTONE},
     PAGE,
@@ -39,8 +42,10 @@ pub struct Input {
     pub hashes_more: i64,
     /// The hashes are not those of the ids, which the original takes.
     pub foreign: bool,
-    /// One step at a position, instead of the whole.
-    pub step: Option<u64>,
+    /// The table's seed.
+    pub seed: Seed,
+    /// One step at a position, its entry read as one of an edition, instead of the whole.
+    pub step: Option<(Edition, u64)>,
 }
 
 /// What the original says, and what it leaves of table and log.
@@ -168,9 +173,24 @@ fn judged(before: Vec<u8>, n: u64, log: &[u8], sync: u32, said: Said) -> Heard {
     did.departs(how, wanted, Out::said(said).with("image", before))
 }
 
-/// One entry, as a log of its own.
-fn step(input: &Input, at: u64) -> Heard {
+/// A log of edition two that another store's table is lent: 26, where the original answers 7. Both leave the image.
+fn another_store(before: Vec<u8>, n: u64, log: &[u8], sync: u32) -> Heard {
+    let replayed = original::replay::recover(&before, n as u32, hash_seed(), log, sync);
+    let replayed = heard("replay", &[n, 0], replayed);
+    if replayed.image != before {
+        return Heard::Held(Err("it has changed the table by a log of edition two".to_string()));
+    }
+    Did::of(replayed.said, |()| Did::value("done", &[])).beyond(Out::refused(26).with("image", before))
+}
+
+/// One entry, as a log of its own. In edition two it stands behind its mark's first byte.
+fn step(input: &Input, edition: Edition, at: u64) -> Heard {
     let (before, n, log) = (input.table.image(), input.table.n, input.log.bytes());
+    let at = match (edition, usize::try_from(at).ok().and_then(|at| log.get(at))) {
+        (Edition::Two, Some(&SECOND)) => at + 1,
+        (Edition::Two, Some(_)) if image_fits(n, before.len()) => return Heard::NotAsked,
+        _ => at,
+    };
     let mut reader = Reader::at(&log, at as usize);
     let read = if image_fits(n, before.len()) { reader.read_entry() } else { Ok(Entry::End) };
     let (entry, next) = match read {
@@ -204,7 +224,10 @@ impl fmt::Debug for Input {
             write!(f, ", hashes of their own")?;
         }
         match self.step {
-            Some(at) => write!(f, ", one step at {at}"),
+            Some((edition, at)) => write!(f, ", one step in edition {edition:?} at {at}"),
+            None if self.log.seed.is_some_and(|seed| seed != self.seed) => {
+                write!(f, ", on a table of seed {:?}", Bytes(self.seed.to_vec()))
+            }
             None => Ok(()),
         }
     }
@@ -212,7 +235,8 @@ impl fmt::Debug for Input {
 
 impl Input {
     pub fn new(table: Table, log: Log) -> Self {
-        Input { table, sync: log.sync, log, hashes_more: 0, foreign: false, step: None }
+        let seed = log.seed.unwrap_or(*hash_seed());
+        Input { table, sync: log.sync, log, hashes_more: 0, foreign: false, seed, step: None }
     }
 
     fn hashes(&self, log: &[u8]) -> Vec<u64> {
@@ -226,8 +250,8 @@ impl Input {
     }
 
     /// The hash that a step is lent: that of an update's id.
-    fn hash_at(&self, log: &[u8], at: u64) -> u64 {
-        match model::reader::next(log, at) {
+    fn hash_at(&self, log: &[u8], edition: Edition, at: u64) -> u64 {
+        match model::reader::next(log, edition, at) {
             Ok((model::reader::Entry::Update { id, .. }, _)) if !self.foreign => hash_of(id),
             _ => mixed(at),
         }
@@ -238,9 +262,11 @@ impl Op for ReplayOp {
     type Input = Input;
 
     fn name(input: &Input) -> &'static str {
-        match input.step {
-            Some(_) => "replay step",
-            None => "replay",
+        match (input.step, input.log.edition()) {
+            (Some((Edition::One, _)), _) => "replay step",
+            (Some((Edition::Two, _)), _) => "replay step two",
+            (None, Edition::One) => "replay",
+            (None, Edition::Two) => "replay two",
         }
     }
 
@@ -250,15 +276,16 @@ impl Op for ReplayOp {
         let hashes = input.hashes(&log);
         let out = match input.step {
             None => {
-                let said = E::replay(&mut image, input.table.n, &log, input.sync, &hashes);
+                let said = E::replay(&mut image, input.table.n, &log, input.sync, &input.seed, &hashes);
                 Out::of(said, |r| match r {
                     Replayed::Nothing => Out::value("nothing", &[]),
                     Replayed::Stale => Out::value("stale", &[]),
                     Replayed::Applied => Out::value("applied", &[]),
                 })
             }
-            Some(at) => {
-                let said = E::replay_step(&mut image, input.table.n, &log, at, input.hash_at(&log, at));
+            Some((edition, at)) => {
+                let hash = input.hash_at(&log, edition, at);
+                let said = E::replay_step(&mut image, input.table.n, &log, edition, at, hash);
                 Out::of(said, |s| match s {
                     Stepped::Cleared { next } => Out::value("cleared", &[next]),
                     Stepped::Updated { next } => Out::value("updated", &[next]),
@@ -274,11 +301,19 @@ impl Op for ReplayOp {
         if n > u32::MAX as u64 || input.foreign {
             return Heard::NotAsked;
         }
-        if let Some(at) = input.step {
-            return step(input, at);
+        if let Some((edition, at)) = input.step {
+            return step(input, edition, at);
         }
-        let (before, log) = (input.table.image(), input.log.bytes());
-        let said = match answer(n, image_fits(n, before.len()), &log, input.sync, input.hashes(&log).len()) {
+        let (before, mut log) = (input.table.image(), input.log.bytes());
+        let (fits, hashes) = (image_fits(n, before.len()), input.hashes(&log).len());
+        if is_second(&log) {
+            if fits && seed_of(&log) != input.seed {
+                return another_store(before, n, &log, input.sync);
+            }
+            let Some(back) = told_back(&log) else { return Heard::NotAsked };
+            log = back;
+        }
+        let said = match answer(n, fits, &log, input.sync, hashes) {
             Ok(name) => Said::Value(name, vec![]),
             Err(number) => Said::Refused(number),
         };
@@ -298,8 +333,8 @@ impl Op for ReplayOp {
         for sync in smaller_number(input.sync as u64) {
             out.push(Input { sync: sync as u32, ..input.clone() });
         }
-        if let Some(at) = input.step {
-            out.extend(smaller_number(at).into_iter().map(|at| Input { step: Some(at), ..input.clone() }));
+        if let Some((edition, at)) = input.step {
+            out.extend(smaller_number(at).into_iter().map(|at| Input { step: Some((edition, at)), ..input.clone() }));
         }
         out
     }
@@ -348,7 +383,8 @@ pub fn exhaustive(run: &mut Run) {
                     }
                     let used = log.used() as u64;
                     for at in (0..used + 2).chain([4095, 4096, u64::MAX]) {
-                        run.case::<ReplayOp>(Input { step: Some(at), ..Input::new(table(n), log.clone()) });
+                        let step = Some((Edition::One, at));
+                        run.case::<ReplayOp>(Input { step, ..Input::new(table(n), log.clone()) });
                     }
                 }
             }
@@ -358,7 +394,8 @@ pub fn exhaustive(run: &mut Run) {
         // Step after step.
         for i in 0..log.records.len() {
             for foreign in [false, true] {
-                run.case::<ReplayOp>(Input { step: Some(log.start(i)), foreign, ..Input::new(table(3), log.clone()) });
+                let step = Some((Edition::One, log.start(i)));
+                run.case::<ReplayOp>(Input { step, foreign, ..Input::new(table(3), log.clone()) });
             }
         }
         // Every single-byte change, under the log's sync number.
@@ -374,7 +411,8 @@ pub fn exhaustive(run: &mut Run) {
         for n in [0, 1, 2, 3, 4, 5, 1_048_577, 1 << 32, u64::MAX] {
             for longer in [0, -1, 1, -4096, 4096] {
                 run.case::<ReplayOp>(Input::new(Table { longer, ..table(n) }, log.clone()));
-                run.case::<ReplayOp>(Input { step: Some(5), ..Input::new(Table { longer, ..table(n) }, log.clone()) });
+                let step = Some((Edition::One, 5));
+                run.case::<ReplayOp>(Input { step, ..Input::new(Table { longer, ..table(n) }, log.clone()) });
             }
         }
     }
@@ -399,7 +437,8 @@ pub fn exhaustive(run: &mut Run) {
     }
 }
 
-pub fn random(run: &mut Run, rng: &mut Rng) {
+/// A replay or one of its steps, by chance.
+pub fn any(rng: &mut Rng) -> Input {
     let most = if rng.once_in(300) { 4200 } else { 24 };
     let n = any_count(rng, most);
     let mut table = Table::new(n, &any_tags(rng, n));
@@ -416,9 +455,16 @@ pub fn random(run: &mut Run, rng: &mut Rng) {
         0 => input.sync = input.sync.wrapping_add(1),
         1 => input.hashes_more = rng.below(5) as i64 - 2,
         2 => input.foreign = true,
-        3 => input.step = Some(rng.below(input.log.used() as u64 + 3)),
-        4..=6 => input.step = Some(input.log.start(rng.below(input.log.records.len() as u64 + 1) as usize)),
+        3 => input.step = Some((Edition::One, rng.below(input.log.used() as u64 + 3))),
+        4..=6 => {
+            let record = rng.below(input.log.records.len() as u64 + 1) as usize;
+            input.step = Some((Edition::One, input.log.start(record)));
+        }
         _ => {}
     }
-    run.case::<ReplayOp>(input);
+    input
+}
+
+pub fn random(run: &mut Run, rng: &mut Rng) {
+    run.case::<ReplayOp>(any(rng));
 }

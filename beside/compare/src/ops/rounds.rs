@@ -5,13 +5,17 @@ use crate::{
     engine::{Engine, Model},
     faults::Bent,
     heard::{number, Heard},
-    input::{fill, good_diff, hash_at, hash_of, hash_seed, log_hashes, smaller_diff, smaller_number, words, Label},
+    input::{
+        fill, good_diff, hash_at, hash_of, hash_seed, log_hashes, near, smaller_diff, smaller_number, words, Label,
+    },
     ops::{growth, prepare::foreseen},
     rng::{mixed, Rng},
     run::{Op, Out, Run},
+    second::retold,
 };
 use model::{
     diff::{Diff, NODE},
+    edition::Start,
     growth::Grown,
     path::Found,
     places::{length_of, page_of, tag_pages_of, tags_of, ELIDED_AT, ID_AT},
@@ -29,11 +33,12 @@ pub struct RoundsOp;
 
 #[derive(Clone, Debug, PartialEq)]
 pub enum Act {
-    /// Changes of some pages, by their place among the input's pages: slots, or none for a clear; and
-    /// what the nodes are filled with.
+    /// Changes of some pages, by their place among the input's pages: slots, or none for a clear; what the nodes are
+    /// filled with; and whether the log is of edition two, which the original's is told in then.
     Sync {
         changes: Vec<(usize, Option<Diff>)>,
         with: u64,
+        second: bool,
         cut: Cut,
         again: Option<u64>,
     },
@@ -100,8 +105,8 @@ fn play<E: Engine>(input: &Input, mut store: Option<Running>) -> (String, Result
     let mut world = World { n, image: vec![0; length_of(n) as usize], tags: vec![0; m], sync: 0 };
     for (i, act) in input.acts.iter().enumerate() {
         let step = match act {
-            Act::Sync { changes, with, cut, again } => {
-                sync::<E>(&mut world, store.as_mut(), input, changes, *with, cut, *again, &mut told)
+            Act::Sync { changes, with, second, cut, again } => {
+                sync::<E>(&mut world, store.as_mut(), input, changes, (*with, *second), cut, *again, &mut told)
             }
             Act::Look(p) => look::<E>(&world, store.as_ref(), input.pages[p % input.pages.len()], &mut told),
             Act::Grow(new) => grow::<E>(&mut world, store.as_mut(), *new, &mut told),
@@ -130,7 +135,7 @@ fn sync<E: Engine>(
     store: Option<&mut Running>,
     input: &Input,
     changes: &[(usize, Option<Diff>)],
-    with: u64,
+    (with, second): (u64, bool),
     cut: &Cut,
     again: Option<u64>,
     told: &mut String,
@@ -164,15 +169,17 @@ fn sync<E: Engine>(
 
     let number = world.sync + 1;
     let mut store = store;
-    let room = (records.len() * 4097 + 6).next_multiple_of(PAGE);
-    let ahead = store.as_ref().map(|_| foreseen(world.n, &world.tags, &cells, &records, &pages, room as u64));
+    let start = Start { sync: number, seed: second.then_some(*hash_seed()) };
+    let room = (records.len() * 4098 + 24).next_multiple_of(PAGE);
+    let in_room = (room as u64, &start.seed);
+    let ahead = store.as_ref().map(|_| foreseen((world.n, &world.tags), &cells, &records, &pages, in_room));
     let mut tags = world.tags.clone();
     let mut marks = vec![0xAA; tag_pages_of(world.n) as usize];
     let mut log = vec![0xEE; room];
     let mut new_cells = cells.clone();
     let mut writer = Writer::Fresh;
     let mut lent = Lent { n: world.n, tags: &mut tags, cells: &mut new_cells, marks: &mut marks, log: &mut log };
-    let said = E::sync(&mut lent, &mut writer, number, &records, &pages);
+    let said = E::sync(&mut lent, &mut writer, start, &records, &pages);
     *told += &format!("{said:?}");
     let refused = match said {
         Synced::Done { .. } => None,
@@ -190,9 +197,9 @@ fn sync<E: Engine>(
 
     // Where each update went, as the log tells.
     let mut writes: Vec<(u64, Vec<u8>)> = Vec::new();
-    let mut at = model::reader::FIRST;
+    let mut at = start.edition().first();
     for page in records.iter().zip(pages.chunks(PAGE)).map(|(r, p)| (!r.diff.cleared()).then_some(p)) {
-        if let Ok((entry, next)) = E::reader_next(&log, at) {
+        if let Ok((entry, next)) = E::reader_next(&log, start.edition(), at) {
             if let (model::reader::Entry::Update { bucket, .. }, Some(page)) = (entry, page) {
                 writes.push((tag_pages_of(world.n) + bucket, page.to_vec()));
             }
@@ -205,6 +212,7 @@ fn sync<E: Engine>(
         }
     }
 
+    let mut their_log = vec![];
     if let Some(store) = store.as_deref_mut() {
         let changes: Vec<original::sync::Change> = records
             .iter()
@@ -221,12 +229,13 @@ fn sync<E: Engine>(
             })
             .collect();
         let synced = store.sync(&changes, &cells, cut).map_err(trouble)?;
-        if synced.log != log {
+        if retold(&synced.log, &start.seed) != log {
             return Err("another log".to_string());
         }
         if (synced.occupied, &synced.tags, &synced.cells) != (occupied, &tags, &new_cells) {
             return Err("other tags, cells or occupied".to_string());
         }
+        their_log = synced.log;
     }
 
     match cut {
@@ -255,7 +264,15 @@ fn sync<E: Engine>(
         }
     }
     let wanted: Answer<Replayed> = Ok(if *cut == Cut::BeforeMeta { Replayed::Stale } else { Replayed::Applied });
-    let said = E::replay(&mut world.image, world.n, &log, world.sync, &log_hashes(&log));
+    if second {
+        // Another store does not take it.
+        let said =
+            E::replay(&mut world.image, world.n, &log, world.sync, &near(*hash_seed(), 15, 1), &log_hashes(&log));
+        if said != Err(Refused(26)) || world.image != stopped {
+            return Err(format!("another store's table says {said:?}"));
+        }
+    }
+    let said = E::replay(&mut world.image, world.n, &log, world.sync, hash_seed(), &log_hashes(&log));
     *told += &format!(" {said:?}");
     if let Some(store) = store.as_deref_mut() {
         store.open().map_err(trouble)?;
@@ -272,10 +289,10 @@ fn sync<E: Engine>(
             }
         }
         if let Some(store) = store.as_deref_mut() {
-            store.put_back(&mixture, &log);
+            store.put_back(&mixture, &their_log);
         }
         world.image = mixture;
-        let said = E::replay(&mut world.image, world.n, &log, world.sync, &log_hashes(&log));
+        let said = E::replay(&mut world.image, world.n, &log, world.sync, hash_seed(), &log_hashes(&log));
         *told += &format!(" {said:?}");
         if let Some(store) = store {
             store.open().map_err(trouble)?;
@@ -391,10 +408,10 @@ impl Op for RoundsOp {
             out.push(less);
         }
         for (i, act) in input.acts.iter().enumerate() {
-            if let Act::Sync { changes, with, cut, again } = act {
+            if let Act::Sync { changes, with, second, cut, again } = act {
                 let mut put = |changes: Vec<(usize, Option<Diff>)>, cut: Cut, again: Option<u64>| {
                     let mut less = input.clone();
-                    less.acts[i] = Act::Sync { changes, with: *with, cut, again };
+                    less.acts[i] = Act::Sync { changes, with: *with, second: *second, cut, again };
                     out.push(less);
                 };
                 for j in 0..changes.len() {
@@ -438,8 +455,13 @@ pub fn exhaustive(run: &mut Run) {
         let sync = |changes: &[(usize, Option<Diff>)], cut: Cut| Act::Sync {
             changes: changes.to_vec(),
             with: 9,
+            second: false,
             cut,
             again: None,
+        };
+        let second = |act: Act| match act {
+            Act::Sync { changes, with, cut, again, .. } => Act::Sync { changes, with, second: true, cut, again },
+            other => other,
         };
         let both = [(0, Some(Diff(1))), (1, Some(Diff(1 << 125)))];
         let kinds = [
@@ -449,6 +471,9 @@ pub fn exhaustive(run: &mut Run) {
             sync(&both, Cut::BeforeMeta),
             sync(&both, Cut::Among(0)),
             sync(&[(0, None), both[1]], Cut::Among(0xE4E4)),
+            second(sync(&both, Cut::None)),
+            second(sync(&both, Cut::BeforeMeta)),
+            second(sync(&[(0, None), both[1]], Cut::Among(0x1B1B))),
             Act::Look(0),
             Act::Look(1),
             Act::Grow(n),
@@ -487,7 +512,8 @@ pub fn random(run: &mut Run, rng: &mut Rng) {
                     _ => Cut::Among(rng.next()),
                 };
                 let again = rng.once_in(2).then(|| rng.next());
-                Act::Sync { changes: changes(rng, pages.len()), with: rng.below(1 << 16), cut, again }
+                let (changes, with) = (changes(rng, pages.len()), rng.below(1 << 16));
+                Act::Sync { changes, with, second: rng.once_in(2), cut, again }
             }
             6..=8 => Act::Look(rng.below(count) as usize),
             9 => {

@@ -5,14 +5,17 @@ use crate::{
     engine::Engine,
     heard::{Did, End, Heard},
     input::{
-        any_diff, any_tags, fill, good_diff, hash_at, smaller_diff, smaller_number, tags_fit, Filler, Label, Table,
+        any_diff, any_tags, fill, good_diff, hash_at, smaller_diff, smaller_number, tags_fit, Bytes, Filler, Label,
+        Table,
     },
     ops::prepare::{asked, departure, Stop, Theirs},
     rng::Rng,
     run::{u64_bytes, Op, Out, Run, Said},
+    second::{edition, retold},
 };
 use model::{
     diff::Diff,
+    edition::{Edition, Seed, Start},
     places::tag_pages_of,
     sync::{Change, Lent, Place, State, Synced, UNSET},
     tags::{full_tag, kind, Kind},
@@ -47,6 +50,8 @@ pub struct Input {
     pub marks_longer: i64,
     pub log: Filler,
     pub number: u32,
+    /// The store that the log names, in edition two. A step has its edition from its writer.
+    pub seed: Option<Seed>,
     /// The state before: of the whole sync, or of its one step with the occupied number.
     pub writer: Writer,
     pub step: Option<u64>,
@@ -64,6 +69,9 @@ impl fmt::Debug for Input {
         }
         if self.marks_longer != 0 {
             write!(f, ", marks longer by {}", self.marks_longer)?;
+        }
+        if let Some(seed) = self.seed {
+            write!(f, ", of edition two with seed {:?}", Bytes(seed.to_vec()))?;
         }
         if self.writer != Writer::Fresh {
             write!(f, ", writer {:?}", self.writer)?;
@@ -86,6 +94,7 @@ impl Input {
             marks_longer: 0,
             log: Filler { len: 4 * PAGE, with: 0 },
             number: 7,
+            seed: None,
             writer: Writer::Fresh,
             step: None,
         }
@@ -96,6 +105,10 @@ impl Input {
             .iter()
             .map(|c| Change { id: c.label.id(), hash: c.label.hash, diff: c.diff, place: c.place })
             .collect()
+    }
+
+    fn start(&self) -> Start {
+        Start { sync: self.number, seed: self.seed }
     }
 
     /// A page for each change.
@@ -123,7 +136,8 @@ impl Input {
 fn writer_bytes(w: Writer) -> Vec<u8> {
     u64_bytes(&match w {
         Writer::Fresh => [0, 0],
-        Writer::Open(at) => [1, at],
+        Writer::Open(Edition::One, at) => [1, at],
+        Writer::Open(Edition::Two, at) => [3, at],
         Writer::Finished(len) => [2, len],
     })
 }
@@ -209,7 +223,7 @@ fn whole(input: &Input) -> Heard {
     let mut refused: Option<Refusal> = None;
     let mut before = None;
     for (j, (c, page)) in changes.iter().zip(pages.chunks(PAGE)).enumerate() {
-        let number = theirs.refusal(c, theirs.log.len() as u64, room);
+        let number = theirs.refusal(c, edition(&input.seed), theirs.position(&input.seed), room);
         if let Some(number) = number {
             before = Some((theirs.ended(), out_of(input, &theirs, Some((j, number)))));
             refused = Some((j, number, theirs.step(c, page).err()));
@@ -240,14 +254,18 @@ fn whole(input: &Input) -> Heard {
     did.held_to(wanted, departure(number, &changes[j], stop.as_ref(), theirs.moved).or(twice), out)
 }
 
-/// What 01 has to answer and leave, by the original's changes so far.
+/// What 01 has to answer and leave, by the original's changes so far. In edition two its records are retold.
 fn out_of(input: &Input, theirs: &Theirs, refused: Option<(usize, u8)>) -> Out {
     match refused {
-        Some((j, number)) => left(input, Said::RefusedAt(j as u64, number), theirs, 0, &theirs.log, Writer::Fresh),
+        Some((j, number)) => {
+            let records = retold(&theirs.log, &input.seed);
+            left(input, Said::RefusedAt(j as u64, number), theirs, 0, &records, Writer::Fresh)
+        }
         None => {
             let mut log = theirs.log.clone();
             log.push(2);
             log.resize(log.len().next_multiple_of(PAGE), 0);
+            let log = retold(&log, &input.seed);
             let length = log.len() as u64;
             let said = Said::Value("synced", vec![theirs.full(), length]);
             left(input, said, theirs, 0, &log, Writer::Finished(length))
@@ -256,7 +274,7 @@ fn out_of(input: &Input, theirs: &Theirs, refused: Option<(usize, u8)>) -> Out {
 }
 
 /// One step: a sync of the original of one change, whose record stands in the log where the writer is.
-fn step(input: &Input, occupied: u64, at: u64) -> Heard {
+fn step(input: &Input, occupied: u64, edition: Edition, at: u64) -> Heard {
     let (n, tags, pages) = (input.table.n, input.table.tag_bytes(), input.exact_pages());
     let change = &input.changes()[..1];
     let room = (input.log.len / PAGE * PAGE) as u64;
@@ -264,7 +282,7 @@ fn step(input: &Input, occupied: u64, at: u64) -> Heard {
         Ok(theirs) => theirs,
         Err(lost) => return Heard::Otherwise { did: lost, wanted: "a table that fits".to_string() },
     };
-    let number = theirs.refusal(&change[0], at, room);
+    let number = theirs.refusal(&change[0], edition, at, room);
     let (number, bucket, stop) = match (number, theirs.step(&change[0], &pages[..PAGE])) {
         (number, Ok(bucket)) => (number, bucket, None),
         (number, Err(stop)) => (Some(number.unwrap_or(no_bucket(&stop))), 0, Some(stop)),
@@ -286,8 +304,10 @@ fn step(input: &Input, occupied: u64, at: u64) -> Heard {
     };
     let page = original::places::data_page_index(n as u32, bucket).unwrap_or(u64::MAX);
     let said = Said::Value("step", vec![bucket, page, occupied]);
-    let records = &theirs.log[5..];
-    let out = left(input, said, &theirs, at as usize, records, Writer::Open(at + records.len() as u64));
+    // A record names no store.
+    let records = retold(&theirs.log[5..], &(edition == Edition::Two).then_some([0; 16]));
+    let after = Writer::Open(edition, at + records.len() as u64);
+    let out = left(input, said, &theirs, at as usize, &records, after);
     did.held_to(wanted, None, out)
 }
 
@@ -295,9 +315,11 @@ impl Op for SyncOp {
     type Input = Input;
 
     fn name(input: &Input) -> &'static str {
-        match input.step {
-            Some(_) => "sync step",
-            None => "sync",
+        match (input.step, input.writer, input.seed) {
+            (Some(_), Writer::Open(Edition::Two, _), _) => "sync step two",
+            (Some(_), ..) => "sync step",
+            (None, _, Some(_)) => "sync two",
+            (None, _, None) => "sync",
         }
     }
 
@@ -311,7 +333,7 @@ impl Op for SyncOp {
         let mut writer = input.writer;
         let mut lent = Lent { n: input.table.n, tags: &mut tags, cells: &mut cells, marks: &mut marks, log: &mut log };
         let out = match input.step {
-            None => match E::sync(&mut lent, &mut writer, input.number, &changes, &pages) {
+            None => match E::sync(&mut lent, &mut writer, input.start(), &changes, &pages) {
                 Synced::Done { occupied, length } => Out::value("synced", &[occupied, length]),
                 Synced::Refused(why) => Out::refused(why.0),
                 Synced::RefusedAt { change, why } => Out::said(Said::RefusedAt(change, why.0)),
@@ -344,7 +366,7 @@ impl Op for SyncOp {
             _ if !tags_fit(n, input.table.tag_bytes().len()) => refused_whole(input, 1),
             _ if !lent => refused_whole(input, 2),
             (None, _) => whole(input),
-            (Some(occupied), Writer::Open(at)) => step(input, occupied, at),
+            (Some(occupied), Writer::Open(edition, at)) => step(input, occupied, edition, at),
             (Some(_), _) => refused_whole(input, 12),
         }
     }
@@ -398,10 +420,10 @@ impl Op for SyncOp {
     }
 }
 
-const CLEARED: Diff = Diff(1 << 127);
+pub const CLEARED: Diff = Diff(1 << 127);
 
 /// Changes of every kind, in a table of n buckets with two cells.
-fn kinds(n: u64) -> Vec<Told> {
+pub fn kinds(n: u64) -> Vec<Told> {
     let label = |full, home| Label { hash: hash_at(full, home, n), free: 1 };
     let told = |label, diff, place| Told { label, diff, place };
     let mut out = Vec::new();
@@ -459,7 +481,12 @@ pub fn exhaustive(run: &mut Run) {
         run.case::<SyncOp>(sync(&[]));
         for a in &kinds {
             run.case::<SyncOp>(sync(&[*a]));
-            for state in [Writer::Open(5), Writer::Fresh, Writer::Finished(4096), Writer::Open(16_384)] {
+            for state in [
+                Writer::Open(Edition::One, 5),
+                Writer::Fresh,
+                Writer::Finished(4096),
+                Writer::Open(Edition::One, 16_384),
+            ] {
                 for occupied in [0, 1, u64::MAX] {
                     run.case::<SyncOp>(Input { step: Some(occupied), writer: state, ..sync(&[*a]) });
                 }
@@ -467,7 +494,7 @@ pub fn exhaustive(run: &mut Run) {
             for b in &clears_outside(n) {
                 run.case::<SyncOp>(sync(&[*b]));
                 run.case::<SyncOp>(sync(&[*a, *b, *a]));
-                run.case::<SyncOp>(Input { step: Some(1), writer: Writer::Open(5), ..sync(&[*b]) });
+                run.case::<SyncOp>(Input { step: Some(1), writer: Writer::Open(Edition::One, 5), ..sync(&[*b]) });
             }
             for b in &kinds {
                 run.case::<SyncOp>(sync(&[*a, *b]));
@@ -486,7 +513,11 @@ pub fn exhaustive(run: &mut Run) {
             let table = Table { longer, ..Table::new(n, &[0x80, 0x7F]) };
             let fresh = Told { label, diff: Diff(1), place: Place::Fresh };
             run.case::<SyncOp>(Input::new(table.clone(), &[fresh]));
-            run.case::<SyncOp>(Input { step: Some(1), writer: Writer::Open(5), ..Input::new(table, &[fresh]) });
+            run.case::<SyncOp>(Input {
+                step: Some(1),
+                writer: Writer::Open(Edition::One, 5),
+                ..Input::new(table, &[fresh])
+            });
         }
     }
     for (pages_longer, marks_longer) in [(0, 0), (-1, 0), (1, 0), (-4096, 0), (4096, 0), (0, -1), (0, 1), (1, 1)] {
@@ -501,7 +532,7 @@ pub fn exhaustive(run: &mut Run) {
                     log: Filler { len, with: 1 },
                     ..Input::new(Table::new(3, &[]), &changes)
                 };
-                for writer in [Writer::Fresh, Writer::Open(77), Writer::Finished(4096)] {
+                for writer in [Writer::Fresh, Writer::Open(Edition::One, 77), Writer::Finished(4096)] {
                     run.case::<SyncOp>(Input { writer, ..input.clone() });
                     run.case::<SyncOp>(Input { writer, step: Some(0), ..input.clone() });
                 }
@@ -594,7 +625,8 @@ pub fn any_changes(rng: &mut Rng, table: &Table, cells: &[u64], count: u64, slac
     out
 }
 
-pub fn random(run: &mut Run, rng: &mut Rng) {
+/// A sync or one of its steps, by chance.
+pub fn any(rng: &mut Rng) -> Input {
     let n = match rng.below(20) {
         0 => rng.pick(&[4095, 4096, 4097, 8192, 8193, 12_289]),
         1 | 2 => rng.within(1, 64),
@@ -632,9 +664,13 @@ pub fn random(run: &mut Run, rng: &mut Rng) {
         input.writer = match rng.below(10) {
             0 => Writer::Fresh,
             1 => Writer::Finished(rng.number()),
-            2 => Writer::Open(rng.number()),
-            _ => Writer::Open(5 + rng.below(len as u64 + 1)),
+            2 => Writer::Open(Edition::One, rng.number()),
+            _ => Writer::Open(Edition::One, 5 + rng.below(len as u64 + 1)),
         };
     }
-    run.case::<SyncOp>(input);
+    input
+}
+
+pub fn random(run: &mut Run, rng: &mut Rng) {
+    run.case::<SyncOp>(any(rng));
 }

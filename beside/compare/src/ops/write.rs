@@ -8,9 +8,11 @@ use crate::{
     input::{any_diff, good_diff, smaller_diff, smaller_number, words, Filler, Label},
     rng::Rng,
     run::{Op, Out, Run},
+    second::{more, retold},
 };
 use model::{
     diff::{Diff, Packed, NODE, SLOTS},
+    edition::{Edition, Start},
     writer::Writer,
 };
 use original::log::Builder;
@@ -19,7 +21,7 @@ pub struct WriteOp;
 
 #[derive(Clone, Debug, PartialEq)]
 pub enum Call {
-    Begin(u32),
+    Begin(Start),
     Clear(u64),
     /// The table of nodes and the elided bytes are a mixture; the count is the diff's if none is given.
     Update {
@@ -42,6 +44,16 @@ pub struct Input {
     pub calls: Vec<Call>,
 }
 
+/// The edition of the last begin, or of a state that is put, by which the row is named.
+fn edition_of(calls: &[Call]) -> Edition {
+    let told = |call: &Call| match call {
+        Call::Begin(start) => Some(start.edition()),
+        Call::Forge(Writer::Open(edition, _)) => Some(*edition),
+        _ => None,
+    };
+    calls.iter().rev().find_map(told).unwrap_or(Edition::One)
+}
+
 fn nodes_of(with: u64) -> [[u8; NODE]; SLOTS] {
     let mut nodes = [[0; NODE]; SLOTS];
     crate::input::fill(nodes.as_flattened_mut(), with);
@@ -55,7 +67,8 @@ fn elided_of(with: u64) -> [u8; 8] {
 fn state_bytes(w: Writer) -> Vec<u8> {
     let (kind, at) = match w {
         Writer::Fresh => (0u64, 0),
-        Writer::Open(at) => (1, at),
+        Writer::Open(Edition::One, at) => (1, at),
+        Writer::Open(Edition::Two, at) => (3, at),
         Writer::Finished(len) => (2, len),
     };
     [kind.to_le_bytes(), at.to_le_bytes()].concat()
@@ -64,7 +77,7 @@ fn state_bytes(w: Writer) -> Vec<u8> {
 /// The bytes of a record as the original writes it, any number of nodes as they come.
 fn record(call: &Call) -> Vec<u8> {
     match call {
-        Call::Begin(sync) => [&[1][..], &sync.to_le_bytes()].concat(),
+        Call::Begin(start) => [&[1][..], &start.sync.to_le_bytes()].concat(),
         Call::Clear(b) => [&[3][..], &b.to_le_bytes()].concat(),
         Call::Update { label, diff, with, bucket, .. } => {
             let nodes = nodes_given(call);
@@ -88,25 +101,29 @@ fn nodes_given(call: &Call) -> Vec<[u8; NODE]> {
     }
 }
 
-/// The number that 01 refuses a call with, by the original's position and the room that is lent.
-fn refusal(call: &Call, open: bool, at: usize, lent: usize) -> Option<u8> {
-    let room = lent / 4096 * 4096;
-    let size = record(call).len();
+/// The number that 01 refuses a call with, by a writer's state and the room that is lent.
+fn refusal(call: &Call, w: Writer, lent: usize) -> Option<u8> {
+    let room = (lent / 4096 * 4096) as u64;
+    let (edition, at) = match (call, w) {
+        (Call::Lend(_) | Call::Forge(_), _) => return None,
+        (Call::Begin(_), _) => return (room < 4096).then_some(13),
+        (_, Writer::Open(edition, at)) => (edition, at),
+        _ => return Some(12),
+    };
+    let end = 1 + more(edition);
+    let size = record(call).len() as u64 + more(edition);
     match call {
-        Call::Lend(_) | Call::Forge(_) => None,
-        Call::Begin(_) => (room < 4096).then_some(13),
-        _ if !open => Some(12),
         Call::Update { diff, count: Some(count), .. } if *count != diff.0.count_ones() as u64 => Some(2),
         Call::Update { diff, .. } if diff.0 >> 126 != 0 => Some(4),
-        Call::Finish => (at + 1 > room).then_some(13),
-        _ => (at + size + 1 > room).then_some(13),
+        Call::Finish => (at + end > room).then_some(13),
+        _ => (at + size + end > room).then_some(13),
     }
 }
 
 /// One call on the original.
 fn asked(builder: &mut Builder, call: &Call) -> original::Said<()> {
     match call {
-        Call::Begin(sync) => builder.reset(*sync),
+        Call::Begin(start) => builder.reset(start.sync),
         Call::Clear(b) => builder.write_clear(*b),
         Call::Update { label, diff, with, bucket, .. } => {
             builder.write_update(label.id(), words(*diff), &nodes_given(call), elided_of(*with), *bucket)
@@ -120,11 +137,15 @@ impl Op for WriteOp {
     type Input = Input;
 
     fn name(input: &Input) -> &'static str {
-        match input.calls.last() {
-            Some(Call::Begin(_)) => "writer begin",
-            Some(Call::Clear(_)) => "writer clear",
-            Some(Call::Update { .. }) => "writer update",
-            Some(Call::Finish) => "writer finish",
+        match (input.calls.last(), edition_of(&input.calls)) {
+            (Some(Call::Begin(_)), Edition::One) => "writer begin",
+            (Some(Call::Begin(_)), Edition::Two) => "writer begin two",
+            (Some(Call::Clear(_)), Edition::One) => "writer clear",
+            (Some(Call::Clear(_)), Edition::Two) => "writer clear two",
+            (Some(Call::Update { .. }), Edition::One) => "writer update",
+            (Some(Call::Update { .. }), Edition::Two) => "writer update two",
+            (Some(Call::Finish), Edition::One) => "writer finish",
+            (Some(Call::Finish), Edition::Two) => "writer finish two",
             _ => "writer other",
         }
     }
@@ -137,7 +158,7 @@ impl Op for WriteOp {
         for call in &input.calls {
             let log = &mut slice[..lent];
             let said = match call {
-                Call::Begin(sync) => E::begin(log, w, *sync),
+                Call::Begin(start) => E::begin(log, w, *start),
                 Call::Clear(b) => E::write_clear(log, w, *b),
                 Call::Update { label, diff, count, with, bucket } => {
                     let packed = Packed { nodes: nodes_of(*with), count: count.unwrap_or(diff.count()) };
@@ -168,7 +189,8 @@ impl Op for WriteOp {
         out.with("state", state_bytes(w)).with("slice", slice)
     }
 
-    /// The original takes the calls that 01 accepts, and the last one in any case; its buffer starts the slice.
+    /// The original takes the calls that 01 accepts, and the last one in any case; its buffer starts the slice, retold
+    /// where the log is of edition two.
     fn original(input: &Input) -> Heard {
         let too_many = |c: &Call| matches!(c, Call::Update { count: Some(count), .. } if *count > 1 << 12);
         if input.calls.iter().any(|c| matches!(c, Call::Forge(_)) || too_many(c)) {
@@ -181,16 +203,15 @@ impl Op for WriteOp {
         };
         let mut slice = input.slice.bytes();
         let mut lent = slice.len();
-        let mut w = Writer::Fresh;
+        let (mut w, mut seed) = (Writer::Fresh, None);
         let mut said = "nothing";
         for (i, call) in input.calls.iter().enumerate() {
             if let Call::Lend(len) = call {
                 lent = (*len).min(slice.len());
             }
             let last = i + 1 == input.calls.len();
-            let at = builder.position();
             said = "done";
-            match refusal(call, matches!(w, Writer::Open(_)), at, lent) {
+            match refusal(call, w, lent) {
                 Some(number) if last => {
                     // The record after what stands there, or at the start; end with zeros up to a page.
                     let mut wanted = if matches!(call, Call::Begin(_)) { vec![] } else { builder.bytes().to_vec() };
@@ -214,14 +235,18 @@ impl Op for WriteOp {
                     if let Err(trouble) = asked(&mut builder, call) {
                         return Did::of(Err::<(), _>(trouble), |()| Did::value("", &[])).plain();
                     }
-                    let at = builder.position();
+                    if let Call::Begin(start) = call {
+                        seed = start.seed;
+                    }
+                    let bytes = retold(builder.bytes(), &seed);
+                    let at = bytes.len();
                     w = match call {
                         Call::Lend(_) | Call::Forge(_) => w,
                         Call::Finish => Writer::Finished(at as u64),
-                        _ => Writer::Open(at as u64),
+                        _ => Writer::Open(crate::second::edition(&seed), at as u64),
                     };
                     match slice.get_mut(..at) {
-                        Some(start) => start.copy_from_slice(builder.bytes()),
+                        Some(start) => start.copy_from_slice(&bytes),
                         None => return Heard::Held(Err(format!("it stands at {at}, past the slice"))),
                     }
                 }
@@ -244,7 +269,13 @@ impl Op for WriteOp {
                 out.push(less);
             };
             match call.clone() {
-                Call::Begin(s) => smaller_number(s as u64).into_iter().for_each(|s| put(Call::Begin(s as u32))),
+                Call::Begin(s) => {
+                    let syncs = smaller_number(s.sync as u64);
+                    syncs.into_iter().for_each(|sync| put(Call::Begin(Start { sync: sync as u32, ..s })));
+                    if s.seed.is_some_and(|seed| seed != [0; 16]) {
+                        put(Call::Begin(Start::two(s.sync, [0; 16])));
+                    }
+                }
                 Call::Clear(b) => smaller_number(b).into_iter().for_each(|b| put(Call::Clear(b))),
                 Call::Update { label, diff, count, with, bucket } => {
                     let make = |label, diff, count, with, bucket| Call::Update { label, diff, count, with, bucket };
@@ -268,7 +299,7 @@ impl Op for WriteOp {
     }
 }
 
-fn update(diff: u128, bucket: u64) -> Call {
+pub fn update(diff: u128, bucket: u64) -> Call {
     Call::Update { label: Label { hash: 99 ^ bucket, free: 2 }, diff: Diff(diff), count: None, with: 5, bucket }
 }
 
@@ -282,7 +313,7 @@ fn prefixes(run: &mut Run, slice: Filler, calls: &[Call]) {
 pub fn exhaustive(run: &mut Run) {
     let full = (1 << 126) - 1;
     let kinds = [
-        Call::Begin(7),
+        Call::Begin(Start::one(7)),
         Call::Clear(0),
         Call::Clear(u64::MAX),
         update(0, 1),
@@ -305,7 +336,7 @@ pub fn exhaustive(run: &mut Run) {
                     for c in &kinds {
                         if len >= 4096 || with == 2 {
                             run.case::<WriteOp>(Input { slice, calls: vec![a.clone(), b.clone(), c.clone()] });
-                            let begun = vec![Call::Begin(1), a.clone(), b.clone(), c.clone()];
+                            let begun = vec![Call::Begin(Start::one(1)), a.clone(), b.clone(), c.clone()];
                             run.case::<WriteOp>(Input { slice, calls: begun });
                         }
                     }
@@ -319,7 +350,7 @@ pub fn exhaustive(run: &mut Run) {
         for left in 0..=120 {
             let before: usize = capacity - 5 - left;
             let Some(updates) = (0..9).find(|u| (before - 65 * u) % 9 == 0) else { continue };
-            let mut calls = vec![Call::Begin(3)];
+            let mut calls = vec![Call::Begin(Start::one(3))];
             calls.extend(vec![update(0, 4); updates]);
             calls.extend(vec![Call::Clear(9); (before - 65 * updates) / 9]);
             for last in [Call::Clear(1), update(0, 1), update(1, 1), Call::Finish] {
@@ -336,17 +367,24 @@ pub fn exhaustive(run: &mut Run) {
     let two = Filler { len: 8192, with: 4 };
     for len in [0, 4095, 4096, 4097, 8191, 8192] {
         for at in [0, 4, 5, 4095, 4096, 4097, 8191, 8192, u64::MAX - 9, u64::MAX] {
-            for last in [Call::Clear(1), update(1, 1), update(full, 1), Call::Finish, Call::Begin(8)] {
-                for state in [Writer::Open(at), Writer::Finished(at), Writer::Fresh] {
+            for last in [Call::Clear(1), update(1, 1), update(full, 1), Call::Finish, Call::Begin(Start::one(8))] {
+                for state in [Writer::Open(Edition::One, at), Writer::Finished(at), Writer::Fresh] {
                     let calls = vec![Call::Lend(len), Call::Forge(state), last.clone()];
                     run.case::<WriteOp>(Input { slice: two, calls });
                 }
             }
         }
-        let long = [Call::Begin(7), update(full, 1), Call::Lend(len), Call::Finish, Call::Lend(8192), Call::Finish];
+        let long = [
+            Call::Begin(Start::one(7)),
+            update(full, 1),
+            Call::Lend(len),
+            Call::Finish,
+            Call::Lend(8192),
+            Call::Finish,
+        ];
         prefixes(run, two, &long);
     }
-    let mut clears = vec![Call::Begin(1)];
+    let mut clears = vec![Call::Begin(Start::one(1))];
     clears.extend((0..455).map(Call::Clear));
     clears.push(Call::Finish);
     prefixes(run, Filler { len: 4096, with: 1 }, &clears);
@@ -354,7 +392,7 @@ pub fn exhaustive(run: &mut Run) {
 
 fn any_call(rng: &mut Rng) -> Call {
     match rng.below(20) {
-        0 => Call::Begin(rng.number() as u32),
+        0 => Call::Begin(Start::one(rng.number() as u32)),
         1 => Call::Finish,
         2 => Call::Lend(rng.below(20_000) as usize),
         3..=9 => Call::Clear(rng.number()),
@@ -367,7 +405,8 @@ fn any_call(rng: &mut Rng) -> Call {
     }
 }
 
-pub fn random(run: &mut Run, rng: &mut Rng) {
+/// A list of calls, by chance.
+pub fn any(rng: &mut Rng) -> Input {
     let len = match rng.below(4) {
         0 => rng.below(20_000),
         1 => rng.pick(&[4095, 4096, 4097, 8191, 8192, 8193, 16_384]),
@@ -376,15 +415,19 @@ pub fn random(run: &mut Run, rng: &mut Rng) {
     let slice = Filler { len: len as usize, with: rng.below(1 << 16) };
     let mut calls = Vec::new();
     if !rng.once_in(20) {
-        calls.push(Call::Begin(rng.number() as u32));
+        calls.push(Call::Begin(Start::one(rng.number() as u32)));
     }
     for _ in 0..rng.below(30) {
         calls.push(any_call(rng));
     }
     if rng.once_in(30) {
-        calls.push(Call::Forge(Writer::Open(rng.number())));
+        calls.push(Call::Forge(Writer::Open(Edition::One, rng.number())));
         calls.push(any_call(rng));
     }
     calls.push(if rng.once_in(2) { Call::Finish } else { any_call(rng) });
-    run.case::<WriteOp>(Input { slice, calls });
+    Input { slice, calls }
+}
+
+pub fn random(run: &mut Run, rng: &mut Rng) {
+    run.case::<WriteOp>(any(rng));
 }
