@@ -9,15 +9,22 @@ use original::timed as theirs;
 use std::hint::black_box;
 
 const LOADS: [usize; 3] = [50, 70, 90];
+/// Rounds that are counted, of allocation.
+const ROUNDS: usize = 15;
 
 pub fn allocation(bits: u32, rng: &mut Rng) -> Vec<Row> {
     let mut table = Table::new(1 << bits);
     LOADS
         .map(|load| {
             table.fill(load, rng);
-            let ids: Vec<[u8; 32]> = (0..table.n / 100).map(|_| rng.bytes()).collect();
+            let pages = table.n / 100;
+            // Other pages in each round, the same for both: a walk that comes again is foretold by the processor.
+            let batches: Vec<Vec<[u8; 32]>> =
+                (0..=ROUNDS).map(|_| (0..pages).map(|_| rng.bytes()).collect()).collect();
+            let (mut for_ours, mut for_original) = (batches.iter(), batches.iter());
             let (mut mine, mut other) = (vec![], vec![]);
             let ours = || {
+                let ids = for_ours.next().expect("a round");
                 let mut tags = table.tags.clone();
                 mine.clear();
                 timed(|| {
@@ -26,10 +33,11 @@ pub fn allocation(bits: u32, rng: &mut Rng) -> Vec<Row> {
                 .0
             };
             let original = || {
+                let ids = for_original.next().expect("a round");
                 other.clear();
-                theirs::Map::new(&table.tags, table.n).allocate(&ids, &SEED, &mut other)
+                theirs::Map::new(&table.tags, table.n).allocate(ids, &SEED, &mut other)
             };
-            let done = row(format!("allocate, 2^{bits}, {load} % full"), ids.len(), 15, ours, original);
+            let done = row(format!("allocate, 2^{bits}, {load} % full"), pages, ROUNDS, ours, original);
             assert!(mine == other);
             done
         })
