@@ -3,3 +3,4 @@ pub mod Laws
 pub mod Examples
 pub mod Parts
 pub mod Same
+pub mod Zeros

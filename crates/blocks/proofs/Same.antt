@@ -19,7 +19,7 @@ pub and-false : (a : Bool) → (a && false) ≡ false
 and-false true = refl
 and-false false = refl
 
-both : (a b : Bool) → (a && b) ≡ true → (a ≡ true) × (b ≡ true)
+pub both : (a b : Bool) → (a && b) ≡ true → (a ≡ true) × (b ≡ true)
 both true true e = (refl, refl)
 both true false e = absurd (true≢false (sym e))
 both false b e = absurd (true≢false (sym e))

@@ -39,3 +39,8 @@ sameBytes [] [] = true
 sameBytes [] (y ∷ ys) = false
 sameBytes (x ∷ xs) [] = false
 sameBytes (x ∷ xs) (y ∷ ys) = eqb x y && sameBytes xs ys
+
+-- every byte is zero
+unfoldable pub allZero : List ℕ → Bool
+allZero [] = true
+allZero (x ∷ xs) = eqb x 0 && allZero xs

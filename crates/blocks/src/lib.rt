@@ -2,8 +2,13 @@
 // `read_buf`, `to_le_bytes` and `copy_from_slice`. Every call is total: past the slice's end zeros are
 // read and nothing is written. A block goes through an array by value, which compiles to wide moves.
 ghost use mathlib.Core.Path.{_≡_};
-ghost use lib.ListN.{length, replicate};
-ghost use Rattle.blocks.specs.Blocks.{le, bytesOf, block, put, sameBytes};
+ghost use mathlib.Core.Bool.{_&&_};
+ghost use Prim.Native.Nat.{_≤_};
+ghost use lib.ListN.{length, drop, replicate};
+ghost use Rattle.blocks.specs.Blocks.{le, bytesOf, block, put, sameBytes, allZero};
+
+// So many bytes are looked at before it is asked whether one was not zero.
+const LOOKED: usize = 1024;
 
 // The number that four bytes are.
 pub fn u32_of(b: [u8; 4]) -> u32
@@ -279,4 +284,38 @@ pub fn same_16(a: [u8; 16], b: [u8; 16]) -> bool
         k += 1;
     }
     same
+}
+
+// Whether the bytes of s from `from` to `to` are all zero. There is no stop between, so many are looked at at once.
+fn zeros_between(s: &[u8], from: usize, to: usize) -> bool
+    requires { ⌜ (from ≤ to) × (to ≤ length (now s)) ⌝ }
+    ensures { λ r. ⌜ allZero (drop from (now (s .entry))) ≡ (r && allZero (drop to (now (s .entry)))) ⌝ }
+{
+    let mut zero = true;
+    let mut i = from;
+    while i < to {
+        if s[i] != 0 {
+            zero = false;
+        }
+        i += 1;
+    }
+    zero
+}
+
+// Whether every byte of s from `from` on is zero.
+pub fn zeros_from(s: &[u8], from: usize) -> bool
+    ensures { λ r. ⌜ r ≡ allZero (drop from (now (s .entry))) ⌝ }
+{
+    let mut i = from;
+    while i < s.len() {
+        let mut end = s.len();
+        if LOOKED < s.len() - i {
+            end = i + LOOKED;
+        }
+        if !zeros_between(s, i, end) {
+            return false;
+        }
+        i = end;
+    }
+    true
 }

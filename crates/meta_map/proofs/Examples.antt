@@ -7,7 +7,8 @@ use Prim.Native.Nat.{ℕ, _-_, _^_}
 use lib.ListN.{getD, replicate}
 use Rattle.answers.specs.Answers.{given, refused}
 use Rattle.ht_file.specs.Places.{ifTags}
-use Rattle.meta_map.specs.Tags.{empty, tombstone, full, other, kindOf, isKind, fullTag, countOf, allZero, paddingEmpty, writeAnswer, tagWritten}
+use Rattle.blocks.specs.Blocks.{allZero}
+use Rattle.meta_map.specs.Tags.{empty, tombstone, full, other, kindOf, isKind, fullTag, countOf, paddingEmpty, writeAnswer, tagWritten}
 
 -- "0x00 empty, 0x7F tombstone"; "Full means bit 7 set. Bytes 0x01 to 0x7E are none of the three"
 pub kinds : map kindOf (0x00 ∷ 0x01 ∷ 0x7E ∷ 0x7F ∷ 0x80 ∷ 0xFF ∷ []) ≡ empty ∷ other ∷ other ∷ tombstone ∷ full ∷ full ∷ []

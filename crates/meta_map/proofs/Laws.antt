@@ -1,8 +1,8 @@
--- What is known of tags: the three tests by kind, the full tag, counts by kind as one tag is written, and bytes that are all zero.
+-- What is known of tags: the three tests by kind, the full tag, counts by kind as one tag is written, and the padding.
 -- Assumes nothing.
 use mathlib.Core.Path.{_≡_, refl, sym, ap, ap₂, _∙_}
-use mathlib.Core.Bool.{Bool, true, false, cond, _&&_}
-use mathlib.Core.List.{List, [], _∷_}
+use mathlib.Core.Bool.{Bool, true, false, cond}
+use mathlib.Core.List.{List}
 use Prim.Native.Nat.{ℕ, zero, suc, _+_, _^_, _≤_, _<_}
 use native.Mathlib.Nat.{le-refl}
 use native.Mathlib.Decide.{ℕ-discrete}
@@ -11,9 +11,10 @@ use native.Mathlib.Omega.{arith}
 use lib.Dec.{leb, eqb}
 use lib.ListN.{length, getD, set, drop, length-drop}
 use lib.Seq.{getD-set-same, getD-set-other, getD-drop, drop-set-lt}
-use borrow.Author.Tests.{leb-true, eqb-true, le-leb, ne-eqb, eq-eqb}
-use Rattle.ht_file.proofs.Laws.{both-hold}
-use Rattle.meta_map.specs.Tags.{Kind, empty, tombstone, full, other, kindOf, isKind, fullTag, one, countOf, allZero, paddingEmpty}
+use borrow.Author.Tests.{leb-true, eqb-true, le-leb, ne-eqb}
+use Rattle.blocks.specs.Blocks.{allZero}
+use Rattle.blocks.proofs.Zeros.{zeros-at, zeros-all}
+use Rattle.meta_map.specs.Tags.{Kind, empty, tombstone, full, other, kindOf, isKind, fullTag, one, countOf, paddingEmpty}
 
 -- a kind is told by one test
 pub kind-empty : (t : ℕ) → isKind empty (kindOf t) ≡ eqb t 0x00
@@ -126,23 +127,12 @@ count-pos k ts b (suc n) l e = go (ℕ-discrete b n) (λ (d : b < n). count-pos 
     go (yes q) rec = omega (arith, ap one (ap (λ (i : ℕ). isKind k (kindOf (getD ts i 0))) (sym q) ∙ e))
     go (no q) rec = omega (arith, rec (omega arith))
 
--- bytes that are all zero
-pub all-zero-at : (ts : List ℕ) → allZero ts ≡ true → (i : ℕ) → getD ts i 0 ≡ 0
-unfolding allZero
-all-zero-at [] e i = refl
-all-zero-at (t ∷ ts) e zero = eqb-true t 0 (both-hold (eqb t 0) (allZero ts) e .0)
-all-zero-at (t ∷ ts) e (suc i) = all-zero-at ts (both-hold (eqb t 0) (allZero ts) e .1) i
-
-pub zero-at-all : (ts : List ℕ) → ((i : ℕ) → i < length ts → getD ts i 0 ≡ 0) → allZero ts ≡ true
-unfolding allZero
-zero-at-all [] h = refl
-zero-at-all (t ∷ ts) h = ap₂ _&&_ (eq-eqb t 0 (h 0 (omega arith))) (zero-at-all ts (λ i l. h (suc i) (omega arith)))
-
+-- the padding
 pub padding-at : (ts : List ℕ) (n : ℕ) → paddingEmpty ts n ≡ true → (i : ℕ) → getD ts (n + i) 0 ≡ 0
-padding-at ts n e i = sym (getD-drop n ts i 0) ∙ all-zero-at (drop n ts) e i
+padding-at ts n e i = sym (getD-drop n ts i 0) ∙ zeros-at (drop n ts) e i
 
 pub padding-all : (ts : List ℕ) (n : ℕ) → ((i : ℕ) → n + i < length ts → getD ts (n + i) 0 ≡ 0) → paddingEmpty ts n ≡ true
-padding-all ts n h = zero-at-all (drop n ts) (λ i l. getD-drop n ts i 0 ∙ h i (omega (arith, length-drop n ts)))
+padding-all ts n h = zeros-all (drop n ts) (λ i l. getD-drop n ts i 0 ∙ h i (omega (arith, length-drop n ts)))
 
 -- a bucket's tag is no padding
 pub padding-set : (ts : List ℕ) (n b t : ℕ) → b < n → paddingEmpty (set ts b t) n ≡ paddingEmpty ts n

@@ -1,10 +1,11 @@
 -- 01, 'Tags': one byte per bucket. Assumes nothing.
 use mathlib.Core.Bool.{Bool, true, false, cond, _&&_}
-use mathlib.Core.List.{List, [], _∷_}
+use mathlib.Core.List.{List}
 use Prim.Native.Nat.{ℕ, zero, suc, _+_, _/_, _^_}
 use lib.Dec.{leb, ltb, eqb}
 use lib.ListN.{length, getD, set, drop}
 use Rattle.answers.specs.Answers.{Answer, given, refused}
+use Rattle.blocks.specs.Blocks.{allZero}
 use Rattle.ht_file.specs.Places.{tagsFit, ifTags}
 
 -- the four kinds of a tag byte
@@ -49,11 +50,6 @@ one false = 0
 unfoldable pub countOf : Kind → List ℕ → ℕ → ℕ
 countOf k ts zero = 0
 countOf k ts (suc n) = countOf k ts n + one (isKind k (kindOf (getD ts n 0)))
-
--- every byte is zero
-unfoldable pub allZero : List ℕ → Bool
-allZero [] = true
-allZero (t ∷ ts) = eqb t 0 && allZero ts
 
 -- "Tag bytes from n on are padding"
 abbrev pub paddingEmpty : List ℕ → ℕ → Bool

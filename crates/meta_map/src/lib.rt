@@ -133,14 +133,10 @@ pub fn padding_is_empty(tags: &[u8], n: usize) -> Truth
     if let Outcome::Refused(why) = fit {
         return Truth::Refused(why);
     }
-    let mut i = n;
-    while i < tags.len() {
-        if tags[i] != EMPTY {
-            return Truth::Fails;
-        }
-        i += 1;
+    if blocks::zeros_from(tags, n) {
+        return Truth::Holds;
     }
-    Truth::Holds
+    Truth::Fails
 }
 
 // The tag page that a bucket's tag stands in.

@@ -13,7 +13,8 @@ use lib.Ieee as Ieee
 use Rattle.answers.specs.Answers.{Answer, given, refused, andThen}
 use Rattle.answers.specs.declared.Refusal.the-variants.{PaddingUsed, LabelTwice, TagWrong, EmptyFirst, NotReached}
 use Rattle.label_search.specs.Labels.{labelled, doubled}
-use Rattle.meta_map.specs.Tags.{fullTag, countOf, allZero, isFull}
+use Rattle.blocks.specs.Blocks.{allZero}
+use Rattle.meta_map.specs.Tags.{fullTag, countOf, isFull}
 use Rattle.probe.specs.Path.{visit}
 use Rattle.validate.specs.Audit.{reaching, auditVisits, stopsReach, pathAudit, bucketAudit, auditedTo, rateOf, auditOf, auditAnswer, auditedSaid}
 use Rattle.validate.specs.declared.Audit.{Audit}

@@ -11,7 +11,8 @@ use Rattle.answers.specs.Answers.{Answer, given, refused, andThen}
 use Rattle.answers.specs.Refusals.{numberOf}
 use Rattle.ht_file.specs.Places.{tagsOf, ifImage}
 use Rattle.label_search.specs.Labels.{labelled, doubled}
-use Rattle.meta_map.specs.Tags.{full, isFull, fullTag, countOf, allZero, paddingEmpty}
+use Rattle.blocks.specs.Blocks.{allZero}
+use Rattle.meta_map.specs.Tags.{full, isFull, fullTag, countOf, paddingEmpty}
 use Rattle.probe.specs.Path.{visits, Stop, stopAt, nowhere, firstStop, isEmpty}
 use Rattle.validate.specs.declared.Audit.{Audit}
 use Rattle.validate.specs.declared.Audited.{Audited}
