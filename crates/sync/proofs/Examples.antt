@@ -24,8 +24,8 @@ use Rattle.sync.proofs.Labels.{Labelled, elsewhere, step-labelled, repl
 use Rattle.sync.specs.Change.{Mem, memOf, whereOf, placeOf, cleared, effectOf, memBy, stateOf, stateBy, pageNumber, takenSaid}
 use Rattle.sync.specs.Sync.{changeAt, changeMem, allOf, memAll, runSaid, on, unbegun, stopped, beforeChanges, saidDone, saidRefused, saidRefusedAt, syncSays, syncMem, syncWriter, syncedSaid}
 use Rattle.sync.specs.declared.Change.{Change}
-use Rattle.sync.specs.declared.Where.{Where}
-use Rattle.sync.specs.declared.Where.the-variants.{Known, Fresh as FreshPage, Cell}
+use Rattle.sync_parts.specs.declared.Where.{Where}
+use Rattle.sync_parts.specs.declared.Where.the-variants.{Known, Fresh as FreshPage, Cell}
 use Rattle.sync.specs.declared.SyncState.{SyncState}
 use Rattle.sync.specs.declared.Taken.the-variants as taken
 use Rattle.sync.specs.declared.Run.the-variants as run

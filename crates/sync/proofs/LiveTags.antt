@@ -14,7 +14,8 @@ use Rattle.meta_map.specs.Tags.{fullTag}
 use Rattle.page_diff.specs.Diff.{marked, slots}
 use Rattle.page_diff.specs.Pack.{nodeAt}
 use Rattle.recover.specs.Places.{pageGives, entryGives}
-use Rattle.sync.specs.Change.{whereOf, Mem, Named, bucket, none, namedBy, tagFits, updates, doesWith, byNamed, doesOf, Effect, cleared, updated, allocated, bucketOf, effectOf, entryBy, tagsBy}
+use Rattle.sync_parts.specs.Parts.{Named, bucket, none, namedBy, tagFits}
+use Rattle.sync.specs.Change.{whereOf, Mem, updates, doesWith, byNamed, doesOf, Effect, cleared, updated, allocated, bucketOf, effectOf, entryBy, tagsBy}
 use Rattle.sync.specs.declared.Change.{Change}
 use Rattle.sync.specs.declared.SyncState.{SyncState}
 use Rattle.sync.proofs.Accepted.{after-updated, accepted-change}

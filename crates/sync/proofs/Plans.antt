@@ -16,30 +16,17 @@ use Rattle.answers.specs.declared.Truth.the-variants as truth
 use Rattle.answers.proofs.Laws.{given-one, given-refused}
 use Rattle.answers.proofs.Truth as TruthT
 use Rattle.page_diff.specs.Diff.{marked, reserved, askAnswer}
-use Rattle.sync.specs.Change.{whereOf, placeOf, Named, bucket, none, namedBy, tagFits, Does, clears, updates, allocates, doesWith, byNamed, doesOf, cellsAt}
-use Rattle.sync.specs.InnerChange.{nameSaid}
+use Rattle.sync_parts.specs.Parts.{Named, bucket, none, namedBy, tagFits}
+use Rattle.sync.specs.Change.{whereOf, placeOf, Does, clears, updates, allocates, doesWith, byNamed, doesOf}
 use Rattle.sync.specs.declared.Change.{Change}
-use Rattle.sync.specs.declared.Where.{Where}
-use Rattle.sync.specs.declared.Where.the-variants as place
-use Rattle.sync.specs.declared.Name.{Name}
-use Rattle.sync.specs.declared.Name.the-variants as N
-use Rattle.sync.proofs.Where as WhereT
-use Rattle.sync.proofs.Name as NameT
+use Rattle.sync_parts.specs.declared.Where.{Where}
+use Rattle.sync_parts.specs.declared.Where.the-variants as place
 
 -- the two numbers of a place say where it is
 pub where-place : (w : Where) → whereOf (placeOf w) ≡ w
 where-place (place.Known b) = refl
 where-place place.Fresh = refl
 where-place (place.Cell i) = refl
-
--- a place that is no cell
-pub no-cell : (w : Where) (b : ℕ) (cells : List ℕ) → OneOf (0 ∷ 1 ∷ []) (tagOf WhereT.the-type w) → cells ≡ cellsAt w b cells
-no-cell (place.Known k) b cells o = refl
-no-cell place.Fresh b cells o = refl
-no-cell (place.Cell i) b cells o = absurd (out 2 refl o)
-  where
-    out : (t : ℕ) → t ≡ 2 → (t ≡ 0) ⊎ (t ≡ 1) → ⊥
-    out t e = ⊎-elim (λ (p : t ≡ 0). omega arith) (λ (p : t ≡ 1). omega arith)
 
 -- asking after bit 126: it holds, or it does not
 pub spare-holds : (ws : List ℕ) (t : Truth) → truthSaid t ≡ askAnswer ws 126 → t ≡ truth.Holds → marked ws 126 ≡ true
@@ -67,18 +54,6 @@ module _ (n : ℕ) (tags cells : List ℕ) (c : Change) where
   plan-by clearing a e f g =
       ap (λ (b : Bool). cond b (refused 4) (byNamed (marked ws 127) n tags (c .hash) (namedBy (whereOf (c .place)) cells))) e
       ∙ sym (ap₂ (λ (b : Bool) (x : Answer Named). byNamed b n tags (c .hash) x) f g)
-
--- a name that is neither a refusal nor a bucket
-pub no-name : (x : Name) → OneOf (0 ∷ 1 ∷ []) (tagOf NameT.the-type x) → OneOf (1 ∷ 2 ∷ []) (tagOf NameT.the-type x) → nameSaid x ≡ given none
-no-name (N.Bucket b) o q = absurd (out 0 refl q)
-  where
-    out : (t : ℕ) → t ≡ 0 → (t ≡ 1) ⊎ (t ≡ 2) → ⊥
-    out t z = ⊎-elim (λ (p : t ≡ 1). omega arith) (λ (p : t ≡ 2). omega arith)
-no-name N.None o q = refl
-no-name (N.Refused r) o q = absurd (out 2 refl o)
-  where
-    out : (t : ℕ) → t ≡ 2 → (t ≡ 0) ⊎ (t ≡ 1) → ⊥
-    out t z = ⊎-elim (λ (p : t ≡ 0). omega arith) (λ (p : t ≡ 1). omega arith)
 
 -- ---- what an accepted plan rests on
 -- a named bucket is inside the table and has the tag that the rule asks for; only a clearing change clears

@@ -25,12 +25,13 @@ use Rattle.wal.specs.Writer.{openAt, position, editionOf, capacity, ifOpen, ifR
 use Rattle.wal.specs.declared.Writer.{Writer}
 use Rattle.wal.specs.declared.Writer.the-variants.{Fresh}
 use Rattle.wal.proofs.RoundTrip.{same-capacity, start-small}
-use Rattle.sync.specs.Change.{Mem, memOf, Named, bucket, none, cellNames, whereOf, namedBy, tagFits, Does, clears, updates, allocates, doesWith, byNamed, doesOf, Effect, cleared, updated, allocated, byBucket, afterDoes, effectOf, entryBy, sizeBy, tagsBy, marksBy, memBy, stateBy}
+use Rattle.sync_parts.specs.Parts.{Named, bucket, none, cellNames, namedBy, tagFits}
+use Rattle.sync.specs.Change.{Mem, memOf, whereOf, Does, clears, updates, allocates, doesWith, byNamed, doesOf, Effect, cleared, updated, allocated, byBucket, afterDoes, effectOf, entryBy, sizeBy, tagsBy, marksBy, memBy, stateBy}
 use Rattle.sync.specs.Sync.{pageOf, Came, through, refusedAt, orRest, orMem, changeAt, changeMem, allOf, memAll, beforeChanges, startMem, startState, saidDone, saidRefused, saidRefusedAt, saidFinish, saidBy, saidIf, keptIf, logAfter, writerAfter, came, left, syncSays, syncMem, syncWriter}
 use Rattle.sync.specs.declared.Change.{Change}
 use Rattle.sync.specs.declared.SyncState.{SyncState}
-use Rattle.sync.specs.declared.Where.{Where}
-use Rattle.sync.specs.declared.Where.the-variants.{Known, Fresh as FreshPage, Cell}
+use Rattle.sync_parts.specs.declared.Where.{Where}
+use Rattle.sync_parts.specs.declared.Where.the-variants.{Known, Fresh as FreshPage, Cell}
 use Rattle.sync.proofs.Accepted.{room, after-cleared, after-updated, after-allocated, accepted-change}
 use Rattle.sync.proofs.Logged.{start-passed}
 use Rattle.sync.proofs.StartLaws.{page-there}

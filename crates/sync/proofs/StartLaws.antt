@@ -1,4 +1,4 @@
--- What the start of a sync counts and tests, and the page of a change. Assumes nothing.
+-- What the start of a sync tests, and the page of a change. Assumes nothing.
 use mathlib.Core.Path.{_≡_, refl, sym, ap, _∙_}
 use mathlib.Core.Bool.{Bool, true, cond}
 use mathlib.Core.List.{List, [], _∷_}
@@ -9,16 +9,12 @@ use lib.ListN.{length, take, drop}
 use types.Run.{OneOf}
 use denote.Enum.Declared.{tagOf}
 use borrow.Author.Tests.{lt-ltb, le-ltb, eq-eqb, ne-eqb}
-use Rattle.answers.specs.Answers.{Answer, given, refused, numberSaid}
+use Rattle.answers.specs.Answers.{Answer, given, refused}
 use Rattle.answers.specs.Refusals.{numberOf}
 use Rattle.answers.specs.declared.Refusal.{Refusal}
-use Rattle.answers.specs.declared.Number.{Number}
-use Rattle.answers.specs.declared.Number.the-variants as number
-use Rattle.answers.proofs.Number as NumberT
 use Rattle.answers.proofs.Laws.{given-refused, refused-one}
-use Rattle.ht_file.specs.Places.{tagsFit, tagPages, ifTable, ifTags}
+use Rattle.ht_file.specs.Places.{tagsFit, tagPages, ifTable}
 use Rattle.ht_file.proofs.Laws.{table-unfit}
-use Rattle.meta_map.specs.Tags.{full, countOf}
 use Rattle.wal.specs.Log.{startRecord, startSize}
 use Rattle.wal.specs.Writer.{openAt, logBy, writerBy, beginAnswer, beginLog, beginWriter}
 use Rattle.wal.specs.declared.Writer.{Writer}
@@ -35,14 +31,6 @@ use Rattle.sync.proofs.Taken as TakenT
 use Rattle.sync.specs.declared.Run.{Run}
 use Rattle.sync.specs.declared.Run.the-variants as run
 use Rattle.sync.proofs.Run as RunT
-
--- the full tags of tags that fit
-pub count-given : (tags : List ℕ) (n : ℕ) → tagsFit n (length tags) ≡ true → ifTags tags n (given (countOf full tags n)) ≡ given (countOf full tags n)
-count-given tags n h = ap (λ (t : Bool). cond t (given (countOf full tags n)) (refused 1)) h
-
-pub number-given : (x : Number) (k : ℕ) → OneOf (1 ∷ []) (tagOf NumberT.the-type x) → numberSaid x ≡ given k → ⊥
-number-given (number.Is m) k o e = omega arith
-number-given (number.Refused r) k o e = given-refused k (numberOf r) (sym e)
 
 -- change j's page, where the pages reach that far and where they do not
 module _ (pages : List ℕ) (j : ℕ) where

@@ -15,12 +15,13 @@ use Rattle.page_diff.specs.Diff.{marked}
 use Rattle.meta_map.specs.Tags.{fullTag}
 use Rattle.wal.specs.Log.{Entry}
 use Rattle.recover.specs.Replay.{bucketOf as entryBucket}
-use Rattle.sync.specs.Change.{whereOf, Mem, bucket, none, namedBy, tagFits, allocates, doesWith, byNamed, doesOf, Effect, cleared, updated, allocated, bucketOf, effectOf, entryBy, tagsBy, marksBy, cellsAt, memBy, stateBy}
+use Rattle.sync_parts.specs.Parts.{bucket, none, namedBy, tagFits, cellsAt}
+use Rattle.sync.specs.Change.{whereOf, Mem, allocates, doesWith, byNamed, doesOf, Effect, cleared, updated, allocated, bucketOf, effectOf, entryBy, tagsBy, marksBy, memBy, stateBy}
 use Rattle.sync.specs.Sync.{pageOf, cameBy, orMem, changeAt, changeMem, allOf, memAll, entriesBy, entriesOf}
 use Rattle.sync.specs.declared.Change.{Change}
 use Rattle.sync.specs.declared.SyncState.{SyncState}
-use Rattle.sync.specs.declared.Where.{Where}
-use Rattle.sync.specs.declared.Where.the-variants.{Known, Fresh as FreshPage, Cell}
+use Rattle.sync_parts.specs.declared.Where.{Where}
+use Rattle.sync_parts.specs.declared.Where.the-variants.{Known, Fresh as FreshPage, Cell}
 use Rattle.sync.proofs.Accepted.{after-allocated, accepted-change}
 use Rattle.sync.proofs.Plans.{past-spare}
 

@@ -18,12 +18,13 @@ use Rattle.wal.specs.Run.{WideChange}
 use Rattle.wal.specs.Writer.{openAt, position, editionOf, ifOpen, ifRoom}
 use Rattle.wal.specs.declared.Edition.{Edition}
 use Rattle.wal.specs.declared.Writer.{Writer}
-use Rattle.sync.specs.declared.Change.{Change}
-use Rattle.sync.specs.declared.Where.{Where}
-use Rattle.sync.specs.declared.Place.{Place}
-use Rattle.sync.specs.declared.Where.the-variants.{Known, Fresh as FreshPage, Cell}
-use Rattle.sync.specs.declared.SyncState.{SyncState}
 use Rattle.wal_write.specs.Calls.{pageUpdate}
+use Rattle.sync_parts.specs.Parts.{Named, bucket, none, namedBy, tagFits, cellsAt}
+use Rattle.sync_parts.specs.declared.Where.{Where}
+use Rattle.sync_parts.specs.declared.Where.the-variants.{Known, Fresh as FreshPage, Cell}
+use Rattle.sync.specs.declared.Change.{Change}
+use Rattle.sync.specs.declared.Place.{Place}
+use Rattle.sync.specs.declared.SyncState.{SyncState}
 use Rattle.sync.specs.declared.StepAnswer.{StepAnswer}
 use Rattle.sync.specs.declared.Taken.{Taken}
 use Rattle.sync.specs.declared.Taken.the-variants as taken
@@ -46,15 +47,6 @@ pub data AllWide : List Change → Type 0 where
   none-wide : AllWide []
   more-wide : {c : Change} {cs : List Change} → Wide c → AllWide cs → AllWide (c ∷ cs)
 
--- the bucket that a change names, if it names one
-pub data Named : Type 0 where
-  bucket : ℕ → Named
-  none : Named
-
--- "Lent cells are u64, and 2^64-1 means unset"
-abbrev pub cellNames : ℕ → Named
-cellNames v = cond (eqb v (2 ^ 64 - 1)) none (bucket v)
-
 -- "where (known b, fresh, or cell i)", as two numbers: 0 is known, 1 fresh, any other a cell
 abbrev pub whereOf : Place → Where
 whereOf p = cond (eqb (p .kind) 0) (Known (p .at)) (cond (eqb (p .kind) 1) FreshPage (Cell (p .at)))
@@ -64,17 +56,6 @@ abbrev pub placeOf : Where → Place
 placeOf (Known b) = record { kind = 0; at = b }
 placeOf FreshPage = record { kind = 1; at = 0 }
 placeOf (Cell i) = record { kind = 2; at = i }
-
--- "cell index 2"
-abbrev pub namedBy : Where → List ℕ → Answer Named
-namedBy (Known b) cells = given (bucket b)
-namedBy FreshPage cells = given none
-namedBy (Cell i) cells = cond (ltb i (length cells)) (given (cellNames (getD cells i 0))) (refused 2)
-
--- the tag rule: "Cleared diff: [..] its tag full"; "Else: known, or a set cell, needs that tag to be the hash's"
-abbrev pub tagFits : Bool → ℕ → ℕ → Bool
-tagFits true h t = isKind full (kindOf t)
-tagFits false h t = eqb t (fullTag h)
 
 -- what a change is to do
 pub data Does : Type 0 where
@@ -161,12 +142,6 @@ abbrev pub marksBy : Effect → List ℕ → List ℕ
 marksBy (cleared b) marks = set marks (b / 4096) 1
 marksBy (updated b) marks = marks
 marksBy (allocated b) marks = set marks (b / 4096) 1
-
--- "an unset cell, allocates (the cell then has the bucket)"
-abbrev pub cellsAt : Where → ℕ → List ℕ → List ℕ
-cellsAt (Known k) b cells = cells
-cellsAt FreshPage b cells = cells
-cellsAt (Cell i) b cells = set cells i b
 
 abbrev pub cellsBy : Effect → Where → List ℕ → List ℕ
 cellsBy (cleared b) w cells = cells

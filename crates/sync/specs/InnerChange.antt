@@ -1,4 +1,4 @@
--- What the inner steps of a change say: the bucket that it names, what it is to do, and what it will have done. Assumes nothing.
+-- What the inner steps of a change say: what it is to do, and what it will have done. Assumes nothing.
 use mathlib.Core.Path.{_≡_}
 use mathlib.Core.Bool.{true, false}
 use mathlib.Core.List.{List}
@@ -9,22 +9,15 @@ use Rattle.answers.specs.Refusals.{numberOf}
 use Rattle.page_diff.specs.Diff.{countOf, reserved}
 use Rattle.wal.specs.Log.{clearBody, updateBody}
 use Rattle.wal_write.specs.Calls.{roomIn}
-use Rattle.sync.specs.Change.{Mem, Named, bucket, none, Does, clears, updates, allocates, doesOf, Effect, cleared, updated, allocated, afterDoes}
+use Rattle.sync.specs.Change.{Mem, Does, clears, updates, allocates, doesOf, Effect, cleared, updated, allocated, afterDoes}
 use Rattle.sync.specs.declared.Change.{Change}
 use Rattle.sync.specs.declared.SyncState.{SyncState}
-use Rattle.sync.specs.declared.Name.{Name}
-use Rattle.sync.specs.declared.Name.the-variants as N
 use Rattle.sync.specs.declared.Planned.{Planned}
 use Rattle.sync.specs.declared.Planned.the-variants as P
 use Rattle.sync.specs.declared.Outlook.{Outlook}
 use Rattle.sync.specs.declared.Outlook.the-variants as O
 
 -- what the code's inner answers say
-abbrev pub nameSaid : Name → Answer Named
-nameSaid (N.Bucket b) = given (bucket b)
-nameSaid N.None = given none
-nameSaid (N.Refused r) = refused (numberOf r)
-
 abbrev pub plannedSaid : Planned → Answer Does
 plannedSaid (P.Clears b) = given (clears b)
 plannedSaid (P.Updates b) = given (updates b)

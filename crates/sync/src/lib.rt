@@ -4,15 +4,15 @@
 ghost use mathlib.Core.Path.{_≡_};
 ghost use mathlib.Core.Bool.{true};
 ghost use mathlib.Core.List.{[]};
-ghost use Prim.Native.Nat.{_+_, _-_, _/_, _^_, _≤_, _<_, min};
-ghost use lib.ListN.{length, set};
+ghost use Prim.Native.Nat.{_≤_, _<_};
+ghost use lib.ListN.{length};
 ghost use Rattle.answers.specs.Answers.{given, refused};
 ghost use Rattle.answers.specs.Refusals.{numberOf};
 ghost use Rattle.ht_file.specs.Places.{tagsFit, bucketPage};
-ghost use Rattle.meta_map.specs.Tags.{full, countOf};
-ghost use Rattle.sync.specs.Change.{memOf, bucket, whereOf, placeOf, namedBy, tagFits, byNamed, doesOf, cellsAt, takenSaid, StepPromise, stateOf};
-ghost use Rattle.sync.specs.declared.Where.the-variants.{Known, Fresh as FreshPage, Cell};
-ghost use Rattle.sync.specs.InnerChange.{nameSaid, plannedSaid, LookPromise};
+ghost use Rattle.sync.specs.Change.{memOf, whereOf, placeOf, byNamed, doesOf, takenSaid, StepPromise, stateOf};
+ghost use Rattle.sync_parts.specs.Parts.{bucket};
+ghost use Rattle.sync_parts.specs.declared.Where.the-variants.{Known, Fresh as FreshPage, Cell};
+ghost use Rattle.sync.specs.InnerChange.{plannedSaid, LookPromise};
 ghost use Rattle.sync.specs.Sync.{ChangePromise, BeginPromise, EndPromise, SyncPromise};
 use answers::Number;
 use answers::Outcome;
@@ -22,11 +22,10 @@ use meta_map::TOMBSTONE;
 use page_diff::Diff;
 use probe::Allocated;
 use probe::Limit;
+use sync_parts::Name;
+use sync_parts::Where;
 use wal::Start;
 use wal::Writer;
-
-// A cell that has no bucket yet.
-pub const UNSET: u64 = 0xffff_ffff_ffff_ffff;
 
 const KNOWN: u64 = 0;
 
@@ -34,15 +33,8 @@ const FRESH: u64 = 1;
 
 const CELL: u64 = 2;
 
-// Where a page's bucket is known from: it is known; the page is new; or a cell has it, or will have it.
-pub enum Where {
-    Known(u64),
-    Fresh,
-    Cell(usize),
-}
-
-// The same as two numbers, for records that cross the boundary to C: 0 is a known bucket, 1 a new page,
-// and any other kind a cell.
+// Where a page's bucket is known from, as two numbers, for records that cross the boundary to C: 0 is a
+// known bucket, 1 a new page, and any other kind a cell.
 #[repr(C)]
 pub struct Place {
     pub kind: u64,
@@ -107,13 +99,6 @@ pub struct SyncAnswer {
     pub writer: Writer,
 }
 
-// The bucket that a change names.
-enum Name {
-    Bucket(u64),
-    None,
-    Refused(Refusal),
-}
-
 // What a change is to do.
 enum Planned {
     Clears(u64),
@@ -159,37 +144,6 @@ pub fn cell(i: usize) -> Place
     }
 }
 
-// The bucket that is known, or that the cell has.
-fn name_of(p: Place, cells: &[u64]) -> Name
-    ensures { λ r. ⌜ nameSaid r ≡ namedBy (whereOf p) (now (cells .entry)) ⌝ }
-{
-    let place = where_of(p);
-    match place {
-        Where::Known(b) => Name::Bucket(b),
-        Where::Fresh => Name::None,
-        Where::Cell(i) => {
-            if i < cells.len() {
-                let b = cells[i];
-                if b == UNSET {
-                    return Name::None;
-                }
-                return Name::Bucket(b);
-            }
-            Name::Refused(Refusal::LengthUnfit)
-        }
-    }
-}
-
-// The tag rule: a clear needs a full tag, an update the hash's.
-fn tag_fits(clearing: bool, hash: u64, tag: u8) -> bool
-    ensures { λ r. ⌜ r ≡ tagFits clearing hash tag ⌝ }
-{
-    if clearing {
-        return meta_map::is_full(tag);
-    }
-    tag == meta_map::full_entry(hash)
-}
-
 // What a named bucket is to take: 9 and 14 are decided here.
 fn plan_named(tags: &[u8], n: usize, clearing: bool, hash: u64, b: u64) -> Planned
     requires { ⌜ tagsFit n (length (now tags)) ≡ true ⌝ }
@@ -197,7 +151,7 @@ fn plan_named(tags: &[u8], n: usize, clearing: bool, hash: u64, b: u64) -> Plann
 {
     if b < n as u64 {
         let i = b as usize;
-        if tag_fits(clearing, hash, tags[i]) {
+        if sync_parts::tag_fits(clearing, hash, tags[i]) {
             if clearing {
                 return Planned::Clears(b);
             }
@@ -220,7 +174,7 @@ fn plan(tags: &[u8], n: usize, cells: &[u64], c: Change) -> Planned
     }
     let clearing = page_diff::cleared(d);
     let place = c.place;
-    let name = name_of(place, cells);
+    let name = sync_parts::name_of(where_of(place), cells);
     if let Name::Refused(why) = name {
         return Planned::Refused(why);
     }
@@ -254,19 +208,19 @@ fn look_ahead(tags: &[u8], cells: &[u64], log: &[u8], c: Change, st: SyncState) 
     match planned {
         Planned::Refused(why) => Outlook::Refused(why),
         Planned::Clears(b) => {
-            if wal_write::has_room(log.len(), w, wal::CLEAR_BODY) {
+            if wal_write::has_room(log.len(), w, sync_parts::body_of(true, d)) {
                 return Outlook::Clears(b);
             }
             Outlook::Refused(Refusal::NoRoom)
         }
         Planned::Updates(b) => {
-            if wal_write::has_room(log.len(), w, wal::UPDATE_BODY + 32 * page_diff::count(d)) {
+            if wal_write::has_room(log.len(), w, sync_parts::body_of(false, d)) {
                 return Outlook::Updates(b);
             }
             Outlook::Refused(Refusal::NoRoom)
         }
         Planned::Allocates => {
-            if wal_write::has_room(log.len(), w, wal::UPDATE_BODY + 32 * page_diff::count(d)) {
+            if wal_write::has_room(log.len(), w, sync_parts::body_of(false, d)) {
                 let found = probe::find_bucket(tags, n, c.hash, limit);
                 match found {
                     Allocated::At(b) => Outlook::Takes(b),
@@ -310,48 +264,6 @@ fn taken_step(b: u64, st: SyncState, writer: Writer, occupied: u64) -> StepAnswe
     }
 }
 
-// One less: a number that was lent falsely stays within its type.
-fn one_less(o: u64) -> u64
-    ensures { λ r. ⌜ r ≡ o - 1 ⌝ }
-{
-    if o == 0 {
-        return 0;
-    }
-    o - 1
-}
-
-// One more, in the same way.
-fn one_more(o: u64) -> u64
-    ensures { λ r. ⌜ r ≡ min (o + 1) (2 ^ 64 - 1) ⌝ }
-{
-    if o == 0xffff_ffff_ffff_ffff {
-        return o;
-    }
-    o + 1
-}
-
-// A tag and the mark of its page.
-fn write_tag(tags: &mut [u8], marks: &mut [u8], b: usize, tag: u8)
-    requires { ⌜ (b < length (now tags)) × (b / 4096 < length (now marks)) ⌝ }
-    ensures { λ _. ⌜ (now (tags .exit) ≡ set (now (tags .entry)) b tag) × (now (marks .exit) ≡ set (now (marks .entry)) (b / 4096) 1) ⌝ }
-{
-    let m = meta_map::page_index(b as u64) as usize;
-    tags[b] = tag;
-    marks[m] = 1;
-}
-
-// The cell that was to have the bucket has it.
-fn set_cell(cells: &mut [u64], p: Place, b: u64)
-    ensures { λ _. ⌜ now (cells .exit) ≡ cellsAt (whereOf p) b (now (cells .entry)) ⌝ }
-{
-    let place = where_of(p);
-    if let Where::Cell(i) = place {
-        if i < cells.len() {
-            cells[i] = b;
-        }
-    }
-}
-
 // One change: its tag, its mark, its cell and its record in the log. A refused change leaves all of them.
 pub fn step(
     tags: &mut [u8],
@@ -387,9 +299,9 @@ pub fn step(
         Outlook::Refused(why) => refused_step(why, st),
         Outlook::Clears(b) => {
             let written = wal_write::write_clear(log, w, b);
-            write_tag(tags, marks, b as usize, TOMBSTONE);
+            sync_parts::write_tag(tags, marks, b as usize, TOMBSTONE);
             let after = written.writer;
-            taken_step(b, st, after, one_less(st.occupied))
+            taken_step(b, st, after, sync_parts::one_less(st.occupied))
         }
         Outlook::Updates(b) => {
             let written = wal_write::write_page_update(log, w, id, d, page, b);
@@ -398,10 +310,10 @@ pub fn step(
         }
         Outlook::Takes(b) => {
             let written = wal_write::write_page_update(log, w, id, d, page, b);
-            write_tag(tags, marks, b as usize, meta_map::full_entry(c.hash));
-            set_cell(cells, place, b);
+            sync_parts::write_tag(tags, marks, b as usize, meta_map::full_entry(c.hash));
+            sync_parts::set_cell(cells, where_of(place), b);
             let after = written.writer;
-            taken_step(b, st, after, one_more(st.occupied))
+            taken_step(b, st, after, sync_parts::one_more(st.occupied))
         }
     }
 }
@@ -435,17 +347,6 @@ pub fn change_at(
     }
     let state = s.state;
     Run::On(state)
-}
-
-// The full tags among the first n.
-fn full_tags(tags: &[u8], n: usize) -> u64
-    requires { ⌜ tagsFit n (length (now tags)) ≡ true ⌝ }
-    ensures { λ r. ⌜ r ≡ countOf full (now (tags .entry)) n ⌝ }
-{
-    if let Number::Is(k) = meta_map::full_count(tags, n) {
-        return k;
-    }
-    0
 }
 
 // The start of a sync of so many changes: the lengths are tested, the log is begun, the marks are zeroed and
@@ -487,7 +388,7 @@ pub fn begin_sync(
         n,
         limit: probe::hit_limit(),
         writer,
-        occupied: full_tags(tags, n),
+        occupied: sync_parts::full_tags(tags, n),
     };
     Run::On(state)
 }

@@ -72,82 +72,63 @@ module _ (c : tie.Joined1) where
   as-left : changeLeft m pages ch j (runSaid (run.On st)) ≡ changeLeft m pages ch j (runSaid (o .args .run))
   as-left = sym (ap (λ (x : Run). changeLeft m pages ch j (runSaid x)) is-on)
 
--- src/lib.rt:415:17
 enum-known-run : tie.Need-enum-known-run
 enum-known-run c = search needs
 
--- src/lib.rt:416:9
 returns : tie.Need-returns
 returns c = let x = c .before .before .before .before .before .before .args in change-none (memOf (x .tags .now) (x .marks .now) (x .cells .now) (x .log .now)) (x .pages .now) (x .c) (x .j) (x .run) (c .match .keys2)
 
--- src/lib.rt:421:13
 mul-a : tie.Need-mul-a
 mul-a c = search needs
 
--- src/lib.rt:422:13
 add-e : tie.Need-add-e
 add-e c = search needs
 
--- src/lib.rt:424:43
 sub-step : tie.Need-sub-step
 sub-step c = order (c .before .before .before .before .before .before)
 
--- src/lib.rt:424:43
 part-step-start : tie.Need-part-step-start
 part-step-start c = omega (arith, order (c .before .before .before .before .before .before), reach (c .before .before .before .before .before .before))
 
--- src/lib.rt:424:43
 part-step-end : tie.Need-part-step-end
 part-step-end c = omega (arith, reach (c .before .before .before .before .before .before))
 
--- src/lib.rt:424:9
 step-requires : tie.Need-step-requires
 step-requires c κs = search needs
 
--- src/lib.rt:426:27
 enum-known-t : tie.Need-enum-known-t
 enum-known-t c = search needs
 
--- src/lib.rt:427:9
 same-length : tie.Need-same-length
 same-length c = search needs
 
--- src/lib.rt:427:9
 same-length-2 : tie.Need-same-length-2
 same-length-2 c = search needs
 
--- src/lib.rt:427:9
 same-length-3 : tie.Need-same-length-3
 same-length-3 c = search needs
 
--- src/lib.rt:427:9
 same-length-4 : tie.Need-same-length-4
 same-length-4 c = search needs
 
--- src/lib.rt:427:9
 returns-2 : tie.Need-returns-2
 returns-2 c = let u = c .before .before .before .before .before .before .before .before .before .before .before in let q = u .before .before .before .before .before .before .before .before in let r = u .step in (change-refused (st q) (m q) (pages q) (page q) (ch q) (j q) (same q) (r .result .taken) (r .ensures .taken) (c .before .t .given .0 .0) (c .before .t .given .1) ∙ as-going q, change-mem (st q) (m q) (pages q) (page q) (ch q) (j q) (same q) (memOf (r .last .0) (r .last .1 .0) (r .last .1 .1 .0) (r .last .1 .1 .1 .0)) (r .ensures .memory) ∙ as-left q)
 
 enum-told : tie.Need-enum-told
 enum-told c = search needs
 
--- src/lib.rt:403:1
 same-length-5 : tie.Need-same-length-5
 same-length-5 c = search needs
 
--- src/lib.rt:403:1
 same-length-6 : tie.Need-same-length-6
 same-length-6 c = search needs
 
--- src/lib.rt:403:1
 same-length-7 : tie.Need-same-length-7
 same-length-7 c = search needs
 
--- src/lib.rt:403:1
 same-length-8 : tie.Need-same-length-8
 same-length-8 c = search needs
 
--- src/lib.rt:403:1
 returns-3 : tie.Need-returns-3
 returns-3 c = let u = c .before .before .before .before .before .before .before .before .before .before .before in let q = u .before .before .before .before .before .before .before .before in let r = u .step in (change-given (st q) (m q) (pages q) (page q) (ch q) (j q) (same q) (r .result .taken) (r .ensures .taken) (r .result .state) (r .ensures .state) (c .before .before .match2 .keys2) ∙ as-going q, change-mem (st q) (m q) (pages q) (page q) (ch q) (j q) (same q) (memOf (r .last .0) (r .last .1 .0) (r .last .1 .1 .0) (r .last .1 .1 .1 .0)) (r .ensures .memory) ∙ as-left q)
 

@@ -19,51 +19,39 @@ told r g l e s w x h = (
   (h .1 .0 ∙ sym (ap (λ (v : Run). endWriter (runSaid v) l) e), h .1 .1 ∙ sym (ap (λ (v : Run). endLog (runSaid v) l) e)),
 )
 
--- src/lib.rt:491:22
 enum-known-run : tie.Need-enum-known-run
 enum-known-run c = search needs
 
--- src/lib.rt:495:24
 enum-known-run-2 : tie.Need-enum-known-run-2
 enum-known-run-2 c = search needs
 
--- src/lib.rt:499:17
 enum-known-run-3 : tie.Need-enum-known-run-3
 enum-known-run-3 c = search needs
 
--- src/lib.rt:501:17
 finish-requires : tie.Need-finish-requires
 finish-requires c κs = search needs
 
--- src/lib.rt:505:28
 enum-known-answer : tie.Need-enum-known-answer
 enum-known-answer c = search needs
 
--- src/lib.rt:512:33
 enum-known-answer-2 : tie.Need-enum-known-answer-2
 enum-known-answer-2 c = search needs
 
--- src/lib.rt:487:1
 returns : tie.Need-returns
 returns c = let a = c .before .before .before .before .args in told (a .run) _ (a .log .now) (c .before .run .given .1) _ _ _ (refl, (refl, refl))
 
--- src/lib.rt:487:1
 returns-2 : tie.Need-returns-2
 returns-2 c = let a = c .before .before .before .before .args in told (a .run) _ (a .log .now) (c .before .run2 .given .1) _ _ _ (refl, (refl, refl))
 
--- src/lib.rt:487:1
 same-length : tie.Need-same-length
 same-length c = search needs
 
--- src/lib.rt:487:1
 returns-3 : tie.Need-returns-3
 returns-3 c = let a = c .before .before .before .before .before .before .before .before .before .before .before .args in let x = c .before .before .before .before .before .before .before .before .run3 .given in let f = c .before .before .before .before .before .finish in told (a .run) _ (a .log .now) (x .1) _ _ _ (ap (λ (y : Answer ℕ). saidFinish y (x .0 .0 .occupied)) (sym (ap numberSaid (c .before .answer .given .1)) ∙ f .ensures .0), (f .ensures .1 .0, f .ensures .1 .1))
 
--- src/lib.rt:487:1
 same-length-2 : tie.Need-same-length-2
 same-length-2 c = search needs
 
--- src/lib.rt:487:1
 returns-4 : tie.Need-returns-4
 returns-4 c = let a = c .before .before .before .before .before .before .before .before .before .before .before .args in let x = c .before .before .before .before .before .before .before .before .run3 .given in let f = c .before .before .before .before .before .finish in told (a .run) _ (a .log .now) (x .1) _ _ _ (ap (λ (y : Answer ℕ). saidFinish y (x .0 .0 .occupied)) (sym (ap numberSaid (c .before .answer2 .given .1)) ∙ f .ensures .0), (f .ensures .1 .0, f .ensures .1 .1))
 

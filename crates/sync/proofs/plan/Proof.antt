@@ -1,7 +1,9 @@
 -- Bit 126, then what the place names, then the tag rule: each as the definition has it. Assumes nothing.
-use Rattle.sync.proofs.Plans.{spare-holds, spare-fails, plan-spare, plan-by, no-name}
-use Rattle.sync.specs.Change.{Named, bucket, none, byNamed, doesOf, allocates}
-use Rattle.sync.specs.InnerChange.{nameSaid}
+use Rattle.sync_parts.proofs.PartLaws.{no-name}
+use Rattle.sync.proofs.Plans.{spare-holds, spare-fails, plan-spare, plan-by}
+use Rattle.sync.specs.Change.{byNamed, doesOf, allocates}
+use Rattle.sync_parts.specs.Parts.{Named, bucket, none, namedBy, nameSaid}
+use Rattle.sync_parts.specs.declared.Where.{Where}
 use Rattle.answers.specs.Refusals.{numberOf}
 use Rattle.answers.specs.Answers.{Answer, given, refused}
 use mathlib.Core.Bool.{Bool, cond}
@@ -12,14 +14,15 @@ use Rattle.sync.proofs.plan.Tie as tie
 
 -- past bit 126 the plan goes by what the place names
 by-name : (c : tie.After-name-of) (a : Answer Named) → a ≡ nameSaid (c .name-of .result)
-    → let args = c .before .before .before .before .before .before .before .before .args in
-    doesOf (args .n) (args .tags .now) (args .cells .now) (args .c) ≡ byNamed (c .before .before .cleared .result) (args .n) (args .tags .now) (args .c .hash) a
+    → let args = c .before .before .before .before .before .before .before .before .before .args in
+    doesOf (args .n) (args .tags .now) (args .cells .now) (args .c) ≡ byNamed (c .before .before .before .cleared .result) (args .n) (args .tags .now) (args .c .hash) a
 by-name c a e =
-    let asked = c .before .before .before .before in
+    let placed = c .before in
+    let asked = placed .before .before .before .before in
     let args = asked .before .before .before .before .args in
-    plan-by (args .n) (args .tags .now) (args .cells .now) (args .c) (c .before .before .cleared .result) a
-    (spare-fails (args .c .diff .words) (asked .changed .result) (asked .changed .ensures) (c .before .before .before .match .keys2))
-    (c .before .before .cleared .ensures) (e ∙ c .name-of .ensures)
+    plan-by (args .n) (args .tags .now) (args .cells .now) (args .c) (placed .before .before .cleared .result) a
+    (spare-fails (args .c .diff .words) (asked .changed .result) (asked .changed .ensures) (placed .before .before .before .match .keys2))
+    (placed .before .before .cleared .ensures) (e ∙ c .name-of .ensures ∙ ap (λ (w : Where). namedBy w (args .cells .now)) (placed .where-of .ensures))
 
 changed-requires : tie.Need-changed-requires
 changed-requires c κs = search needs
@@ -32,6 +35,9 @@ returns c = let asked = c .before .before in let args = asked .before .before .b
 
 cleared-requires : tie.Need-cleared-requires
 cleared-requires c κs = search needs
+
+where-of-requires : tie.Need-where-of-requires
+where-of-requires c κs = search needs
 
 name-of-requires : tie.Need-name-of-requires
 name-of-requires c κs = search needs
@@ -65,6 +71,7 @@ plan-spec =
     enum-told
     returns
     cleared-requires
+    where-of-requires
     name-of-requires
     enum-known-name
     returns-2

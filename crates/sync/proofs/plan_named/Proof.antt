@@ -1,5 +1,6 @@
 -- Each test answers as the definition does. Assumes nothing.
-use Rattle.sync.specs.Change.{tagFits, doesWith}
+use Rattle.sync_parts.specs.Parts.{tagFits}
+use Rattle.sync.specs.Change.{doesWith}
 use Rattle.ht_file.proofs.Laws.{tags-fit-facts}
 use Rattle.answers.specs.Answers.{given, refused}
 use borrow.Author.Tests.{lt-ltb, le-ltb}

@@ -2,14 +2,15 @@
 use mathlib.Core.Path.{_≡_, refl, sym, ap, ap₂, _∙_, subst}
 use mathlib.Core.Bool.{true}
 use mathlib.Core.List.{List}
-use Prim.Native.Nat.{ℕ, _/_, _≤_, _<_}
-use native.Mathlib.Omega.{arith}
+use Prim.Native.Nat.{ℕ, _≤_}
 use lib.ListN.{length, set}
 use Rattle.answers.specs.Answers.{outcomeSaid}
 use Rattle.answers.specs.Refusals.{numberOf}
 use Rattle.ht_file.specs.Places.{tagsFit, tagPages}
 use Rattle.ht_file.proofs.Laws.{tags-fit-facts, table-fits}
 use Rattle.wal.specs.declared.Writer.{Writer}
+use Rattle.sync_parts.specs.Parts.{cellsAt}
+use Rattle.sync_parts.specs.declared.Where.{Where}
 use Rattle.sync.specs.Change.{Wide, memOf, effectOf, cleared, updated, allocated, stateOf}
 use Rattle.sync.specs.InnerChange.{outlookSaid, outlookFits}
 use Rattle.sync.specs.declared.Change.{Change}
@@ -78,12 +79,6 @@ module _ (c : tie.After-look-ahead) where
   opened : Opened (st at .writer)
   opened = c .before .before .before .before .before .match2 .keys1
 
-  within : (b : ℕ) → b < st at .n → (b < length (tags at)) × (b / 4096 < length (marks at))
-  within b h =
-      let f = tags-fit-facts (st at .n) (length (tags at)) (fits (first told)) in
-      let k : length (marks at) ≡ tagPages (st at .n) = marked told in
-      (omega arith, omega arith)
-
   most : st at .n ≤ 1048576
   most = tags-fit-facts (st at .n) (length (tags at)) (fits (first told)) .1
 
@@ -95,199 +90,155 @@ module _ (c : tie.After-look-ahead) where
     rests : outlookFits o (st at) (log at) (ch at)
     rests = subst (λ (x : Outlook). outlookFits x (st at) (log at) (ch at)) e (c .look-ahead .ensures .1)
 
--- src/lib.rt:368:9
 check-tags-requires : tie.Need-check-tags-requires
 check-tags-requires c κs = search needs
 
--- src/lib.rt:369:29
 enum-known-fit : tie.Need-enum-known-fit
 enum-known-fit c = search needs
 
--- src/lib.rt:370:9
 refused-step-requires : tie.Need-refused-step-requires
 refused-step-requires c κs = search needs
 
--- src/lib.rt:370:9
 returns : tie.Need-returns
 returns c = let o = c .before .before .before .before .before .before .before .before .before .before in let x = c .before .before .fit .given in refused-left (st o) (tags o) (marks o) (cells o) (log o) (page o) (ch o) (numberOf (x .0 .0)) (c .refused-step .result) (step-unfit (st o) (tags o) (marks o) (cells o) (log o) (page o) (ch o) (numberOf (x .0 .0)) (sym (c .before .before .before .before .check-tags .ensures) ∙ ap outcomeSaid (x .1))) (c .refused-step .ensures .0) (c .refused-step .ensures .1) (wide o)
 
 enum-told : tie.Need-enum-told
 enum-told c = search needs
 
--- src/lib.rt:373:9
 refused-step-requires-2 : tie.Need-refused-step-requires-2
 refused-step-requires-2 c κs = search needs
 
--- src/lib.rt:373:9
 returns-2 : tie.Need-returns-2
 returns-2 c = let t = c .before .before in let o = start t in refused-left (st o) (tags o) (marks o) (cells o) (log o) (page o) (ch o) 2 (c .refused-step2 .result) (step-page (st o) (tags o) (marks o) (cells o) (log o) (page o) (ch o) (fits t) (c .before .if1 .taken)) (c .refused-step2 .ensures .0) (c .refused-step2 .ensures .1) (wide o)
 
--- src/lib.rt:375:23
 tag-pages-requires : tie.Need-tag-pages-requires
 tag-pages-requires c κs = search needs
 
--- src/lib.rt:376:9
 refused-step-requires-3 : tie.Need-refused-step-requires-3
 refused-step-requires-3 c κs = search needs
 
--- src/lib.rt:376:9
 returns-3 : tie.Need-returns-3
 returns-3 c = let e = c .before .before .before in let t = e .before in let o = start t in refused-left (st o) (tags o) (marks o) (cells o) (log o) (page o) (ch o) 2 (c .refused-step3 .result) (step-marks (st o) (tags o) (marks o) (cells o) (log o) (page o) (ch o) (fits t) (e .if1 .left) (λ q. c .before .if2 .taken (q ∙ sym (c .before .before .tag-pages .ensures)))) (c .refused-step3 .ensures .0) (c .refused-step3 .ensures .1) (wide o)
 
 enum-told-2 : tie.Need-enum-told-2
 enum-told-2 c = search needs
 
--- src/lib.rt:379:9
 refused-step-requires-4 : tie.Need-refused-step-requires-4
 refused-step-requires-4 c κs = search needs
 
--- src/lib.rt:379:9
 returns-4 : tie.Need-returns-4
 returns-4 c = let e = c .before .before in let t = first e in let o = start t in refused-left (st o) (tags o) (marks o) (cells o) (log o) (page o) (ch o) 12 (c .refused-step4 .result) (step-closed (st o) (tags o) (marks o) (cells o) (log o) (page o) (ch o) (fits t) (paged e) (marked e) (c .before .match2 .keys2)) (c .refused-step4 .ensures .0) (c .refused-step4 .ensures .1) (wide o)
 
--- src/lib.rt:381:9
 look-ahead-requires : tie.Need-look-ahead-requires
 look-ahead-requires c κs = fits (c .before .before .before .before .before .before .before .before)
 
--- src/lib.rt:386:26
 enum-known-ahead : tie.Need-enum-known-ahead
 enum-known-ahead c = search needs
 
--- src/lib.rt:386:34
 refused-step-requires-5 : tie.Need-refused-step-requires-5
 refused-step-requires-5 c κs = search needs
 
--- src/lib.rt:387:25
 enum-known-ahead-2 : tie.Need-enum-known-ahead-2
 enum-known-ahead-2 c = search needs
 
--- src/lib.rt:388:17
 write-clear-requires : tie.Need-write-clear-requires
 write-clear-requires c κs = search needs
 
--- src/lib.rt:389:13
 write-tag-requires : tie.Need-write-tag-requires
-write-tag-requires c κs = let a = c .before .before .before .before .before .before .before in let l = a .before .before .before .before .before in let o = at l in let b = a .ahead2 .given .0 .0 in let r = rests l (outlook.Clears b) (a .ahead2 .given .1) in within l b (r .0)
+write-tag-requires c κs = search needs
 
--- src/lib.rt:391:38
 one-less-requires : tie.Need-one-less-requires
 one-less-requires c κs = search needs
 
--- src/lib.rt:391:13
 taken-step-requires : tie.Need-taken-step-requires
 taken-step-requires c κs = let a = c .before .before .before .before .before .before .before .before .before .before .before .before .before in let l = a .before .before .before .before .before in let o = at l in let b = a .ahead2 .given .0 .0 in let r = rests l (outlook.Clears b) (a .ahead2 .given .1) in (most l, r .0)
 
--- src/lib.rt:393:26
 enum-known-ahead-3 : tie.Need-enum-known-ahead-3
 enum-known-ahead-3 c = search needs
 
--- src/lib.rt:394:17
 write-page-update-requires : tie.Need-write-page-update-requires
 write-page-update-requires c κs = search needs
 
--- src/lib.rt:396:13
 taken-step-requires-2 : tie.Need-taken-step-requires-2
 taken-step-requires-2 c κs = let a = c .before .before .before .before .before in let l = a .before .before .before .before .before in let o = at l in let b = a .ahead3 .given .0 .0 in let r = rests l (outlook.Updates b) (a .ahead3 .given .1) in (most l, r .0)
 
--- src/lib.rt:398:24
 enum-known-ahead-4 : tie.Need-enum-known-ahead-4
 enum-known-ahead-4 c = search needs
 
--- src/lib.rt:399:17
 write-page-update-requires-2 : tie.Need-write-page-update-requires-2
 write-page-update-requires-2 c κs = search needs
 
--- src/lib.rt:400:48
 full-entry-requires : tie.Need-full-entry-requires
 full-entry-requires c κs = search needs
 
--- src/lib.rt:400:13
 write-tag-requires-2 : tie.Need-write-tag-requires-2
-write-tag-requires-2 c κs = let a = c .before .before .before .before .before .before .before .before in let l = a .before .before .before .before .before in let o = at l in let b = a .ahead4 .given .0 .0 in let r = rests l (outlook.Takes b) (a .ahead4 .given .1) in within l b (r .0)
+write-tag-requires-2 c κs = search needs
 
--- src/lib.rt:401:13
+where-of-requires : tie.Need-where-of-requires
+where-of-requires c κs = search needs
+
 set-cell-requires : tie.Need-set-cell-requires
 set-cell-requires c κs = search needs
 
--- src/lib.rt:403:38
 one-more-requires : tie.Need-one-more-requires
 one-more-requires c κs = search needs
 
--- src/lib.rt:403:13
 taken-step-requires-3 : tie.Need-taken-step-requires-3
-taken-step-requires-3 c κs = let a = c .before .before .before .before .before .before .before .before .before .before .before .before .before .before .before .before .before .before in let l = a .before .before .before .before .before in let o = at l in let b = a .ahead4 .given .0 .0 in let r = rests l (outlook.Takes b) (a .ahead4 .given .1) in (most l, r .0)
+taken-step-requires-3 c κs = let a = c .before .before .before .before .before .before .before .before .before .before .before .before .before .before .before .before .before .before .before in let l = a .before .before .before .before .before in let o = at l in let b = a .ahead4 .given .0 .0 in let r = rests l (outlook.Takes b) (a .ahead4 .given .1) in (most l, r .0)
 
--- src/lib.rt:355:1
 same-length : tie.Need-same-length
 same-length c = search needs
 
--- src/lib.rt:355:1
 same-length-2 : tie.Need-same-length-2
 same-length-2 c = search needs
 
--- src/lib.rt:355:1
 same-length-3 : tie.Need-same-length-3
 same-length-3 c = search needs
 
--- src/lib.rt:355:1
 returns-5 : tie.Need-returns-5
 returns-5 c = let a = c .before .before in let l = a .before .before .before .before .before in let o = at l in let why = a .ahead .given .0 .0 in refused-left (st o) (tags o) (marks o) (cells o) (log o) (page o) (ch o) (numberOf why) (c .refused-step5 .result) (seen l (outlook.Refused why) (a .ahead .given .1)) (c .refused-step5 .ensures .0) (c .refused-step5 .ensures .1) (wide o)
 
--- src/lib.rt:355:1
 same-length-4 : tie.Need-same-length-4
 same-length-4 c = search needs
 
--- src/lib.rt:355:1
 same-length-5 : tie.Need-same-length-5
 same-length-5 c = search needs
 
--- src/lib.rt:355:1
 same-length-6 : tie.Need-same-length-6
 same-length-6 c = search needs
 
--- src/lib.rt:355:1
 same-length-7 : tie.Need-same-length-7
 same-length-7 c = search needs
 
--- src/lib.rt:355:1
 returns-6 : tie.Need-returns-6
 returns-6 c = let a = c .before .before .before .before .before .before .before .before .before .before .before .before .before .before in let l = a .before .before .before .before .before in let o = at l in let b = a .ahead2 .given .0 .0 in let r = rests l (outlook.Clears b) (a .ahead2 .given .1) in let w = st o .writer in let k = clear-taken w (log o) (opened l) (r .1) in let wr = c .before .before .before .before .before .before .before .before .before .before .before in let tg = c .before .before .before .before .before .before in given-left (st o) (tags o) (marks o) (cells o) (log o) (page o) (ch o) (cleared b) (c .taken-step .result) (tg .write-tag .last .0) (tg .write-tag .last .1 .0) (cells o) (wr .write-clear .last .0) (seen l (outlook.Clears b) (a .ahead2 .given .1)) (c .taken-step .ensures .0) (c .taken-step .ensures .1 ∙ ap₂ (stateOf (st o .n) (st o .limit)) (wr .write-clear .ensures .1 .0 ∙ clear-state w (log o) k) (c .before .one-less .ensures)) (tg .write-tag .ensures .0) (tg .write-tag .ensures .1) refl (wr .write-clear .ensures .1 .1 ∙ clear-bytes w (log o) k b) (wide o)
 
--- src/lib.rt:355:1
 same-length-8 : tie.Need-same-length-8
 same-length-8 c = search needs
 
--- src/lib.rt:355:1
 same-length-9 : tie.Need-same-length-9
 same-length-9 c = search needs
 
--- src/lib.rt:355:1
 same-length-10 : tie.Need-same-length-10
 same-length-10 c = search needs
 
--- src/lib.rt:355:1
 returns-7 : tie.Need-returns-7
 returns-7 c = let a = c .before .before .before .before .before .before in let l = a .before .before .before .before .before in let o = at l in let b = a .ahead3 .given .0 .0 in let r = rests l (outlook.Updates b) (a .ahead3 .given .1) in let w = st o .writer in let ws = ch o .diff .words in let k = page-taken w (log o) ws (page o) (opened l) (paged (told l)) (r .2) (r .1) in let wr = c .before .before .before in given-left (st o) (tags o) (marks o) (cells o) (log o) (page o) (ch o) (updated b) (c .taken-step2 .result) (tags o) (marks o) (cells o) (wr .write-page-update .last .0) (seen l (outlook.Updates b) (a .ahead3 .given .1)) (c .taken-step2 .ensures .0) (c .taken-step2 .ensures .1 ∙ ap (λ (v : Writer). stateOf (st o .n) (st o .limit) v (st o .occupied)) (wr .write-page-update .ensures .1 .0 ∙ page-state w (log o) ws (page o) k)) refl refl refl (wr .write-page-update .ensures .1 .1 ∙ page-bytes w (log o) ws (page o) k (ch o .id) b) (wide o)
 
--- src/lib.rt:355:1
 same-length-11 : tie.Need-same-length-11
 same-length-11 c = search needs
 
--- src/lib.rt:355:1
 same-length-12 : tie.Need-same-length-12
 same-length-12 c = search needs
 
--- src/lib.rt:355:1
 same-length-13 : tie.Need-same-length-13
 same-length-13 c = search needs
 
--- src/lib.rt:355:1
 same-length-14 : tie.Need-same-length-14
 same-length-14 c = search needs
 
--- src/lib.rt:355:1
 returns-8 : tie.Need-returns-8
-returns-8 c = let a = c .before .before .before .before .before .before .before .before .before .before .before .before .before .before .before .before .before .before .before in let l = a .before .before .before .before .before in let o = at l in let b = a .ahead4 .given .0 .0 in let r = rests l (outlook.Takes b) (a .ahead4 .given .1) in let w = st o .writer in let ws = ch o .diff .words in let k = page-taken w (log o) ws (page o) (opened l) (paged (told l)) (r .2) (r .1) in let wr = c .before .before .before .before .before .before .before .before .before .before .before .before .before .before .before .before in let tg = c .before .before .before .before .before .before .before .before .before .before in let cl = c .before .before .before .before in given-left (st o) (tags o) (marks o) (cells o) (log o) (page o) (ch o) (allocated b) (c .taken-step3 .result) (tg .write-tag2 .last .0) (tg .write-tag2 .last .1 .0) (cl .set-cell .last .0) (wr .write-page-update2 .last .0) (seen l (outlook.Takes b) (a .ahead4 .given .1)) (c .taken-step3 .ensures .0) (c .taken-step3 .ensures .1 ∙ ap₂ (stateOf (st o .n) (st o .limit)) (wr .write-page-update2 .ensures .1 .0 ∙ page-state w (log o) ws (page o) k) (c .before .one-more .ensures)) (tg .write-tag2 .ensures .0 ∙ ap (set (tags o) b) (tg .before .full-entry .ensures)) (tg .write-tag2 .ensures .1) (cl .set-cell .ensures) (wr .write-page-update2 .ensures .1 .1 ∙ page-bytes w (log o) ws (page o) k (ch o .id) b) (wide o)
+returns-8 c = let a = c .before .before .before .before .before .before .before .before .before .before .before .before .before .before .before .before .before .before .before .before in let l = a .before .before .before .before .before in let o = at l in let b = a .ahead4 .given .0 .0 in let r = rests l (outlook.Takes b) (a .ahead4 .given .1) in let w = st o .writer in let ws = ch o .diff .words in let k = page-taken w (log o) ws (page o) (opened l) (paged (told l)) (r .2) (r .1) in let wr = c .before .before .before .before .before .before .before .before .before .before .before .before .before .before .before .before .before in let tg = c .before .before .before .before .before .before .before .before .before .before .before in let cl = c .before .before .before .before in given-left (st o) (tags o) (marks o) (cells o) (log o) (page o) (ch o) (allocated b) (c .taken-step3 .result) (tg .write-tag2 .last .0) (tg .write-tag2 .last .1 .0) (cl .set-cell .last .0) (wr .write-page-update2 .last .0) (seen l (outlook.Takes b) (a .ahead4 .given .1)) (c .taken-step3 .ensures .0) (c .taken-step3 .ensures .1 ∙ ap₂ (stateOf (st o .n) (st o .limit)) (wr .write-page-update2 .ensures .1 .0 ∙ page-state w (log o) ws (page o) k) (c .before .one-more .ensures)) (tg .write-tag2 .ensures .0 ∙ ap (set (tags o) b) (tg .before .full-entry .ensures)) (tg .write-tag2 .ensures .1) (cl .set-cell .ensures ∙ ap (λ (p : Where). cellsAt p b (cells o)) (cl .before .where-of .ensures)) (wr .write-page-update2 .ensures .1 .1 ∙ page-bytes w (log o) ws (page o) k (ch o .id) b) (wide o)
 
 pub step-spec : {M : Type 1} → statement M
 step-spec =
@@ -321,6 +272,7 @@ step-spec =
     write-page-update-requires-2
     full-entry-requires
     write-tag-requires-2
+    where-of-requires
     set-cell-requires
     one-more-requires
     taken-step-requires-3

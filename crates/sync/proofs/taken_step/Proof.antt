@@ -6,15 +6,12 @@ use borrow.Author.Needs.{needs}
 use Rattle.sync.proofs.taken_step.Statement.{statement}
 use Rattle.sync.proofs.taken_step.Tie as tie
 
--- src/lib.rt:301:19
 tag-pages-requires : tie.Need-tag-pages-requires
 tag-pages-requires c κs = search needs
 
--- src/lib.rt:301:19
 add-t9 : tie.Need-add-t9
 add-t9 c = search needs
 
--- src/lib.rt:292:1
 returns : tie.Need-returns
 returns c = let b = c .before .args .b in (ap (λ (x : ℕ). given (b, x + b)) (c .tag-pages .ensures), refl)
 

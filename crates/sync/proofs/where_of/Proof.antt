@@ -1,5 +1,5 @@
 -- By the kind. Assumes nothing.
-use Rattle.sync.specs.declared.Where.the-variants.{Known, Fresh, Cell}
+use Rattle.sync_parts.specs.declared.Where.the-variants.{Known, Fresh, Cell}
 use borrow.Author.Tests.{eq-eqb, ne-eqb}
 use mathlib.Core.Bool.{Bool, cond}
 use mathlib.Core.Path.{_≡_, sym, ap, _∙_}

@@ -1,11 +1,11 @@
 -- Each rule by its case. Assumes nothing.
-use Rattle.sync.specs.Change.{tagFits}
+use Rattle.sync_parts.specs.Parts.{tagFits}
 use lib.Dec.{eqb}
 use mathlib.Core.Bool.{Bool}
 use mathlib.Core.Path.{sym, ap, _∙_}
 use borrow.Author.Needs.{needs}
-use Rattle.sync.proofs.tag_fits.Statement.{statement}
-use Rattle.sync.proofs.tag_fits.Tie as tie
+use Rattle.sync_parts.proofs.tag_fits.Statement.{statement}
+use Rattle.sync_parts.proofs.tag_fits.Tie as tie
 
 is-full-requires : tie.Need-is-full-requires
 is-full-requires c κs = search needs
