@@ -2,7 +2,6 @@
 use mathlib.Core.Path.{_≡_, refl}
 use mathlib.Core.Bool.{true, false}
 use mathlib.Core.List.{[], _∷_, map}
-use Prim.Native.Nat.{ℕ}
 use lib.Ieee.{binary64}
 use lib.Ieee as Ieee
 use lib.ListN.{replicate}
@@ -16,7 +15,7 @@ use Rattle.sync.specs.Sync.{saidDone, saidRefused, saidRefusedAt}
 use Rattle.recover.specs.Replay.{nothing, stale, applied, cleared, updated, atEnd}
 use Rattle.rehash.specs.Pending.{tidy, updateMetaThenTidy}
 use Rattle.rehash.specs.Growth.{done, nothingToDo}
-use Rattle.bitbox.specs.Words.{editionOf, editionNumber, logStart, pair, refusalOf, outcomeWords, numberWords, truthWords, probeWords, lookupWords, entryRefusal, entryKind, entryBucket, headWords, writerOf, writerWords, writtenWords, finishedWords, stateOf, stateWords, stepWords, syncWords, replayWords, wentWords, markerWords, leftWords, growthWords, auditWords}
+use Rattle.bitbox.specs.Words.{logStart, pair, outcomeWords, numberWords, truthWords, probeWords, lookupWords, entryRefusal, entryKind, entryBucket, headWords, writerOf, writerWords, writtenWords, finishedWords, stateOf, stateWords, stepWords, syncWords, replayWords, wentWords, markerWords, leftWords, growthWords, auditWords}
 
 -- done, a number, whether something holds; replay; what is left of a growth; growth: the refusal and the value
 pub answers : map outcomeWords (given tt ∷ refused 9 ∷ []) ∷ map numberWords (given 7 ∷ refused 9 ∷ []) ∷ map truthWords (given true ∷ given false ∷ refused 3 ∷ [])
@@ -54,10 +53,9 @@ pub writers : (map writerOf (record { kind = 0; at = 5 } ∷ record { kind = 1; 
     ∷ record { refusal = 0; length = 4096; writer = record { kind = 2; at = 4096 } } ∷ record { refusal = 12; length = 0; writer = record { kind = 0; at = 0 } } ∷ [])
 writers = (refl, refl, refl)
 
--- an edition, both ways, and what a log starts with
-pub editions : (map editionOf (0 ∷ 1 ∷ 2 ∷ 3 ∷ []) ≡ One ∷ One ∷ Two ∷ One ∷ []) × (map editionNumber (One ∷ Two ∷ []) ≡ 1 ∷ 2 ∷ [])
-    × (logStart (record { sync = 7; edition = 2; seed = replicate 16 5 }) ≡ record { sync = 7; edition = Two; seed = replicate 16 5 })
-editions = (refl, refl, refl)
+-- what a log starts with
+pub log-starts : logStart (record { sync = 7; edition = 2; seed = replicate 16 5 }) ≡ record { sync = 7; edition = Two; seed = replicate 16 5 }
+log-starts = refl
 
 -- a sync's state, both ways, a change and a whole sync
 pub syncs : (stateOf (record { n = 3; writer = record { kind = 1; at = 5 }; occupied = 2 }) ≡ record { n = 3; limit = hitLimit; writer = Open 5 One; occupied = 2 })
@@ -75,6 +73,6 @@ syncs = (refl, refl, refl, refl)
 pub growth-and-audit : (map markerWords (given (record { old = 4; new = 8 }) ∷ refused 16 ∷ []) ≡ record { refusal = 0; old = 4; new = 8 } ∷ record { refusal = 16; old = 0; new = 0 } ∷ [])
     × (map auditWords (given (record { capacity = 2; occupied = 1; rate = Ieee.ofBits binary64 0x3FE0000000000000 }) ∷ refused 21 ∷ [])
     ≡ record { refusal = 0; capacity = 2; occupied = 1; rate = Ieee.ofBits binary64 0x3FE0000000000000 } ∷ record { refusal = 21; capacity = 0; occupied = 0; rate = Ieee.ofBits binary64 0 } ∷ [])
-    × (refusalOf {A = ℕ} (given 7) ∷ refusalOf {A = ℕ} (refused 9) ∷ pair 5 6 ≡ 0 ∷ 9 ∷ 5 ∷ 6 ∷ [])
+    × (pair 5 6 ≡ 5 ∷ 6 ∷ [])
 unfolding Ieee.ofBits Ieee.ofInt
 growth-and-audit = (refl, refl, refl)

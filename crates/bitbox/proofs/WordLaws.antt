@@ -12,7 +12,8 @@ use Rattle.wal_read.specs.Entry.{whatSaid}
 use Rattle.wal_read.specs.declared.What.{What}
 use Rattle.wal_read.specs.declared.What.the-variants as what
 use Rattle.wal_read.proofs.What as WhatT
-use Rattle.bitbox.specs.Words.{refusalOf, numberWords, written, writerWords, writtenWords, finishedWords, entryRefusal}
+use Rattle.numbers.specs.Numbers.{refusalOf}
+use Rattle.bitbox.specs.Words.{numberWords, written, writerWords, writtenWords, finishedWords, entryRefusal}
 
 pub written-is : (a : Answer (Unit {0})) (w : Writer) → writtenWords a w ≡ written (refusalOf a) 0 (writerWords w)
 written-is (given u) w = refl

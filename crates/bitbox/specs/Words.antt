@@ -1,21 +1,14 @@
--- The numbers that cross the boundary: how each answer of 01 is written in the struct that a call returns. Every struct begins with the number
--- of the refusal, 0 for none; where there is no value a field is 0. Assumes nothing.
+-- The numbers that cross the boundary: how each answer of 01 is written in the struct that a call returns (`numbers/Numbers` has those of an edition, a
+-- writer and an audit). Every struct begins with the number of the refusal, 0 for none; where there is no value a field is 0. Assumes nothing.
 use mathlib.Core.Path.{_≡_}
-use mathlib.Core.Bool.{Bool, true, false, cond}
+use mathlib.Core.Bool.{Bool, true, false}
 use mathlib.Core.List.{List, [], _∷_}
 use Prim.Native.Nat.{ℕ}
-use lib.IntN.{pos}
-use lib.Ieee.{Float, binary64}
-use lib.Ieee as Ieee
-use lib.Dec.{eqb}
 use Rattle.answers.specs.Answers.{Answer, given, refused}
 use Rattle.probe.specs.Path.{Probe, emptyAt, tombstoneAt, hitAt, closed, Sought, foundAt, absent, unreached, hitLimit}
 use Rattle.wal.specs.Reader.{Next}
-use Rattle.wal.specs.declared.Edition.{Edition}
-use Rattle.wal.specs.declared.Edition.the-variants.{One, Two}
 use Rattle.wal.specs.declared.Start.{Start}
 use Rattle.wal.specs.declared.Writer.{Writer}
-use Rattle.wal.specs.declared.Writer.the-variants.{Fresh, Open, Finished}
 use Rattle.wal_read.specs.Head.{Seen, aClear, anUpdate, theEnd, aRefusal}
 use Rattle.wal_read.specs.Entry.{Kind, clears, updates, ends, refuses, whatOf, idOf, diffOf, packedOf, elidedOf, nextOf}
 use Rattle.sync.specs.Change.{Wide, Mem, effectOf, memBy, stateBy, pageNumber}
@@ -28,6 +21,8 @@ use Rattle.recover.specs.declared.Expected.{Expected}
 use Rattle.rehash.specs.Marker.{Counts}
 use Rattle.rehash.specs.Pending.{Left, tidy, updateMetaThenTidy}
 use Rattle.rehash.specs.Growth.{Growth, done, nothingToDo}
+use Rattle.validate.specs.declared.Audit.{Audit}
+use Rattle.numbers.specs.Numbers.{refusalOf, editionOf, writerFrom, writerKind, writerAt, auditValues}
 use Rattle.bitbox.specs.declared.Answer.{Answer as Words}
 use Rattle.bitbox.specs.declared.Probed.{Probed}
 use Rattle.bitbox.specs.declared.Found.{Found}
@@ -42,16 +37,10 @@ use Rattle.bitbox.specs.declared.Entry.{Entry}
 use Rattle.bitbox.specs.declared.Head.{Head}
 use Rattle.bitbox.specs.declared.Written.{Written}
 use Rattle.bitbox.specs.declared.Audited.{Audited}
-use Rattle.validate.specs.declared.Audit.{Audit}
 
 -- a diff's two words
 abbrev pub pair : ℕ → ℕ → List ℕ
 pair lo hi = lo ∷ hi ∷ []
-
--- "A refusal answers its number"
-abbrev pub refusalOf : {A : Type 0} → Answer A → ℕ
-refusalOf (given a) = 0
-refusalOf (refused k) = k
 
 abbrev pub words : ℕ → ℕ → Words
 words k v = record { refusal = k; value = v }
@@ -132,14 +121,6 @@ headWords (anUpdate b c p) at = head 0 2 b c p
 headWords theEnd at = head 0 0 0 0 at
 headWords (aRefusal k) at = head k 0 0 0 at
 
--- an edition: 2 is the second, any other number the first
-abbrev pub editionOf : ℕ → Edition
-editionOf k = cond (eqb k 2) Two One
-
-abbrev pub editionNumber : Edition → ℕ
-editionNumber One = 1
-editionNumber Two = 2
-
 -- what a log starts with, and what replay expects
 abbrev pub logStart : LogStart → Start
 logStart s = record { sync = s .sync; edition = editionOf (s .edition); seed = s .seed }
@@ -147,21 +128,15 @@ logStart s = record { sync = s .sync; edition = editionOf (s .edition); seed = s
 abbrev pub expected : ℕ → List ℕ → Expected
 expected sync seed = record { sync = sync; seed = seed }
 
--- a writer: 0 fresh, 1 open at a position of a log of edition one, 3 of edition two, any other finished with a length
-abbrev pub openKind : Edition → ℕ
-openKind One = 1
-openKind Two = 3
-
+-- a writer: its kind, and its position or length
 abbrev pub writerOf : WriterState → Writer
-writerOf w = cond (eqb (w .kind) 0) Fresh (cond (eqb (w .kind) 1) (Open (w .at) One) (cond (eqb (w .kind) 3) (Open (w .at) Two) (Finished (w .at))))
+writerOf w = writerFrom (w .kind) (w .at)
 
 abbrev pub state : ℕ → ℕ → WriterState
 state k p = record { kind = k; at = p }
 
 abbrev pub writerWords : Writer → WriterState
-writerWords Fresh = state 0 0
-writerWords (Open p ed) = state (openKind ed) p
-writerWords (Finished len) = state 2 len
+writerWords w = state (writerKind w) (writerAt w)
 
 -- a writer's call: its answer, the length that finish gives, and the state after it
 abbrev pub written : ℕ → ℕ → WriterState → Written
@@ -251,10 +226,12 @@ growthWords (given nothingToDo) = words 0 0
 growthWords (given done) = words 0 1
 growthWords (refused k) = words k 0
 
--- an audit: buckets, full ones and their rate; 0.0 where it is refused
-abbrev pub noRate : Float
-noRate = Ieee.ofInt binary64 (pos 0)
-
+-- an audit: buckets, full ones and their rate
 abbrev pub auditWords : Answer Audit → Audited
-auditWords (given a) = record { refusal = 0; capacity = a .capacity; occupied = a .occupied; rate = a .rate }
-auditWords (refused k) = record { refusal = k; capacity = 0; occupied = 0; rate = noRate }
+auditWords a =
+    record {
+      refusal = refusalOf a;
+      capacity = auditValues a .capacity;
+      occupied = auditValues a .occupied;
+      rate = auditValues a .rate;
+    }

@@ -26,7 +26,8 @@ ghost use Rattle.rehash.specs.Marker.{writeAnswer as writeMarkerAnswer, written
 ghost use Rattle.rehash.specs.Pending.{pendingAnswer, decisionSaid};
 ghost use Rattle.rehash.specs.Growth.{growthAnswer, growthImage, grownSaid};
 ghost use Rattle.validate.specs.Audit.{auditAnswer, auditedSaid};
-ghost use Rattle.bitbox.specs.Words.{refusalOf, words, outcomeWords, numberWords, truthWords, probeWords, lookupWords, entryRefusal, entryKind, entryBucket, Read, headWords, editionOf, editionNumber, logStart, openKind, expected, writerOf, writerWords, writtenWords, finishedWords, stateOf, stateWords, stepWords, syncStart, syncWords, StepExport, SyncExport, replayWords, wentWords, markerWords, leftWords, growthWords, auditWords, pair};
+ghost use Rattle.numbers.specs.Numbers.{refusalOf, editionOf, editionNumber};
+ghost use Rattle.bitbox.specs.Words.{words, outcomeWords, numberWords, truthWords, probeWords, lookupWords, entryRefusal, entryKind, entryBucket, Read, headWords, logStart, expected, writerOf, writerWords, writtenWords, finishedWords, stateOf, stateWords, stepWords, syncStart, syncWords, StepExport, SyncExport, replayWords, wentWords, markerWords, leftWords, growthWords, auditWords, pair};
 use answers::Number;
 use answers::Outcome;
 use answers::Refusal;
@@ -34,7 +35,6 @@ use answers::Truth;
 use page_diff::Diff;
 use page_diff::Packed;
 use sync::Change;
-use wal::Edition;
 use wal::Start;
 use wal::Writer;
 
@@ -191,29 +191,12 @@ pub struct Audited {
 
 // ---- from the proved crates' answers to these
 
-// The number of a refusal.
-fn refusal_number(why: Refusal) -> u64
-    ensures { λ r. ⌜ r ≡ numberOf why ⌝ }
-{
-    answers::number_of(why) as u64
-}
-
-// The same, 0 where the call is done.
-fn refusal_of(o: Outcome) -> u64
-    ensures { λ r. ⌜ r ≡ refusalOf (outcomeSaid o) ⌝ }
-{
-    match o {
-        Outcome::Done => 0,
-        Outcome::Refused(why) => refusal_number(why),
-    }
-}
-
 // A refusal, which has no value.
 fn refused(why: Refusal) -> Answer
     ensures { λ r. ⌜ r ≡ words (numberOf why) 0 ⌝ }
 {
     Answer {
-        refusal: refusal_number(why),
+        refusal: numbers::refusal_number(why),
         value: 0,
     }
 }
@@ -285,7 +268,7 @@ fn of_probed(p: probe::Probed) -> Probed
             visit: 0,
         },
         probe::Probed::Refused(why) => Probed {
-            refusal: refusal_number(why),
+            refusal: numbers::refusal_number(why),
             kind: 0,
             bucket: 0,
             visit: 0,
@@ -313,7 +296,7 @@ fn of_found(f: probe::Found) -> Found
             bucket: 0,
         },
         probe::Found::Refused(why) => Found {
-            refusal: refusal_number(why),
+            refusal: numbers::refusal_number(why),
             kind: 0,
             bucket: 0,
         },
@@ -329,75 +312,29 @@ fn of_allocated(a: probe::Allocated) -> Answer
     }
 }
 
-// The edition that a number says.
-fn edition_of(number: u32) -> Edition
-    ensures { λ r. ⌜ r ≡ editionOf number ⌝ }
-{
-    if number == 2 {
-        return Edition::Two;
-    }
-    Edition::One
-}
-
-// And the number of an edition.
-fn edition_number(e: Edition) -> u32
-    ensures { λ r. ⌜ r ≡ editionNumber e ⌝ }
-{
-    match e {
-        Edition::One => 1,
-        Edition::Two => 2,
-    }
-}
-
 fn log_start_of(s: LogStart) -> Start
     ensures { λ r. ⌜ r ≡ logStart s ⌝ }
 {
     let seed = s.seed;
     Start {
         sync: s.sync,
-        edition: edition_of(s.edition),
+        edition: numbers::edition_of(s.edition),
         seed,
-    }
-}
-
-// The kind of a writer that is open on a log of an edition.
-fn open_kind(e: Edition) -> u64
-    ensures { λ r. ⌜ r ≡ openKind e ⌝ }
-{
-    match e {
-        Edition::One => 1,
-        Edition::Two => 3,
     }
 }
 
 fn writer_of(w: WriterState) -> Writer
     ensures { λ r. ⌜ r ≡ writerOf w ⌝ }
 {
-    if w.kind == 0 {
-        return Writer::Fresh;
-    }
-    if w.kind == 1 {
-        return Writer::Open(w.at as usize, Edition::One);
-    }
-    if w.kind == 3 {
-        return Writer::Open(w.at as usize, Edition::Two);
-    }
-    Writer::Finished(w.at as usize)
+    numbers::writer_from(w.kind, w.at)
 }
 
 fn of_writer(w: Writer) -> WriterState
     ensures { λ r. ⌜ r ≡ writerWords w ⌝ }
 {
-    match w {
-        Writer::Fresh => WriterState { kind: 0, at: 0 },
-        Writer::Open(at, edition) => WriterState {
-            kind: open_kind(edition),
-            at: at as u64,
-        },
-        Writer::Finished(len) => WriterState {
-            kind: 2,
-            at: len as u64,
-        },
+    WriterState {
+        kind: numbers::writer_kind(w),
+        at: numbers::writer_at(w),
     }
 }
 
@@ -407,7 +344,7 @@ fn of_written(w: wal_write::Written) -> Written
     let outcome = w.outcome;
     let writer = w.writer;
     Written {
-        refusal: refusal_of(outcome),
+        refusal: numbers::refusal_of(outcome),
         length: 0,
         writer: of_writer(writer),
     }
@@ -437,7 +374,7 @@ fn of_taken(t: sync::Taken, st: StepState) -> StepAnswer
             state: st,
         },
         sync::Taken::Refused(why) => StepAnswer {
-            refusal: refusal_number(why),
+            refusal: numbers::refusal_number(why),
             bucket: 0,
             page: 0,
             state: st,
@@ -458,7 +395,7 @@ fn of_synced(s: sync::Synced, writer: WriterState) -> SyncAnswer
             writer,
         },
         sync::Synced::Refused(why) => SyncAnswer {
-            refusal: refusal_number(why),
+            refusal: numbers::refusal_number(why),
             at_change: 0,
             change: 0,
             occupied: 0,
@@ -466,7 +403,7 @@ fn of_synced(s: sync::Synced, writer: WriterState) -> SyncAnswer
             writer,
         },
         sync::Synced::RefusedAt(j, why) => SyncAnswer {
-            refusal: refusal_number(why),
+            refusal: numbers::refusal_number(why),
             at_change: 1,
             change: j as u64,
             occupied: 0,
@@ -515,7 +452,7 @@ fn of_stepped(s: recover::Stepped, at: usize) -> Stepped
             next: next as u64,
         },
         recover::Stepped::Refused(why) => Stepped {
-            refusal: refusal_number(why),
+            refusal: numbers::refusal_number(why),
             kind: 0,
             next: at as u64,
         },
@@ -532,7 +469,7 @@ fn of_marker(m: rehash::MarkerRead) -> Marker
             new: new as u64,
         },
         rehash::MarkerRead::Refused(why) => Marker {
-            refusal: refusal_number(why),
+            refusal: numbers::refusal_number(why),
             old: 0,
             new: 0,
         },
@@ -562,22 +499,12 @@ fn of_grown(g: rehash::Grown) -> Answer
 fn of_audited(a: validate::Audited) -> Audited
     ensures { λ r. ⌜ r ≡ auditWords (auditedSaid a) ⌝ }
 {
-    match a {
-        validate::Audited::Passed(p) => Audited {
-            refusal: 0,
-            capacity: p.capacity,
-            occupied: p.occupied,
-            rate: p.rate,
-        },
-        validate::Audited::Refused(why) => {
-            let none: u32 = 0;
-            Audited {
-                refusal: refusal_number(why),
-                capacity: 0,
-                occupied: 0,
-                rate: none as f64,
-            }
-        }
+    let v = numbers::audit_values(a);
+    Audited {
+        refusal: numbers::audit_refusal(a),
+        capacity: v.capacity,
+        occupied: v.occupied,
+        rate: v.rate,
     }
 }
 
@@ -600,7 +527,7 @@ pub extern "C" fn bitbox_diff_read(bytes: &[u8; 16]) -> DiffAnswer
     let outcome = read.outcome;
     let diff = read.diff;
     DiffAnswer {
-        refusal: refusal_of(outcome),
+        refusal: numbers::refusal_of(outcome),
         diff,
     }
 }
@@ -622,7 +549,7 @@ pub extern "C" fn bitbox_diff_set(lo: u64, hi: u64, slot: usize) -> DiffAnswer
     let outcome = set.outcome;
     let diff = set.diff;
     DiffAnswer {
-        refusal: refusal_of(outcome),
+        refusal: numbers::refusal_of(outcome),
         diff,
     }
 }
@@ -676,7 +603,7 @@ pub extern "C" fn bitbox_pack(lo: u64, hi: u64, page: &[u8]) -> PackAnswer
     let outcome = p.outcome;
     let packed = p.packed;
     PackAnswer {
-        refusal: refusal_of(outcome),
+        refusal: numbers::refusal_of(outcome),
         packed,
     }
 }
@@ -842,7 +769,7 @@ pub extern "C" fn bitbox_allocate(tags: &mut [u8], n: usize, hash: u64) -> Answe
 pub extern "C" fn bitbox_reader_edition(log: &[u8]) -> u32
     ensures { λ r. ⌜ r ≡ editionNumber (editionAt (now (log .entry))) ⌝ }
 {
-    edition_number(wal_read::edition_of(log))
+    numbers::edition_number(wal_read::edition_of(log))
 }
 
 // Where the first entry of a log stands.
@@ -874,7 +801,7 @@ pub extern "C" fn bitbox_reader_set(log: &[u8]) -> Answer
 pub extern "C" fn bitbox_reader_next(log: &[u8], at: usize, edition: u32) -> Entry
     ensures { λ r. ⌜ Read (nextAt (editionOf edition) (now (log .entry)) at) at r ⌝ }
 {
-    let ed = edition_of(edition);
+    let ed = numbers::edition_of(edition);
     let e = wal_read::entry_at(log, at, ed);
     let what = e.what;
     let id = e.id;
@@ -923,7 +850,7 @@ fn of_head(h: wal_read::Head, at: usize) -> Head
             next: at as u64,
         },
         wal_read::Head::Refused(why) => Head {
-            refusal: refusal_number(why),
+            refusal: numbers::refusal_number(why),
             kind: 0,
             bucket: 0,
             count: 0,
@@ -937,7 +864,7 @@ fn of_head(h: wal_read::Head, at: usize) -> Head
 pub extern "C" fn bitbox_reader_head(log: &[u8], at: usize, edition: u32) -> Head
     ensures { λ r. ⌜ r ≡ headWords (headOf (nextAt (editionOf edition) (now (log .entry)) at)) at ⌝ }
 {
-    let ed = edition_of(edition);
+    let ed = numbers::edition_of(edition);
     of_head(wal_read::head_at(log, at, ed), at)
 }
 
@@ -945,7 +872,7 @@ fn entry_refusal(w: wal_read::What) -> u64
     ensures { λ r. ⌜ r ≡ entryRefusal (whatSaid w) ⌝ }
 {
     if let wal_read::What::Refused(why) = w {
-        return refusal_number(why);
+        return numbers::refusal_number(why);
     }
     0
 }
@@ -1133,7 +1060,7 @@ pub extern "C" fn bitbox_replay_step(
 ) -> Stepped
     ensures { λ r. ⌜ (r ≡ wentWords (stepAnswer n (now (image .entry)) (editionOf edition) (now (log .entry)) at) at) × (now (image .exit) ≡ stepImage n (now (image .entry)) (editionOf edition) (now (log .entry)) at hash) ⌝ }
 {
-    let ed = edition_of(edition);
+    let ed = numbers::edition_of(edition);
     of_stepped(recover::apply_entry(image, n, log, ed, at, hash), at)
 }
 
@@ -1148,7 +1075,7 @@ pub extern "C" fn bitbox_write_marker(old: u32, new: u32) -> MarkerBytes
     let outcome = m.outcome;
     let bytes = m.bytes;
     MarkerBytes {
-        refusal: refusal_of(outcome),
+        refusal: numbers::refusal_of(outcome),
         bytes,
     }
 }

@@ -1,6 +1,6 @@
 -- The call, in words. Assumes nothing.
 use mathlib.Core.Path.{ap, _∙_}
-use Rattle.bitbox.specs.Words.{refusalOf}
+use Rattle.numbers.specs.Numbers.{refusalOf}
 use borrow.Author.Needs.{needs}
 use Rattle.bitbox.proofs.bitbox_diff_read.Statement.{statement}
 use Rattle.bitbox.proofs.bitbox_diff_read.Tie as tie

@@ -1,6 +1,6 @@
 -- The call, in words. Assumes nothing.
 use mathlib.Core.Path.{ap, _∙_}
-use Rattle.bitbox.specs.Words.{editionNumber}
+use Rattle.numbers.specs.Numbers.{editionNumber}
 use borrow.Author.Needs.{needs}
 use Rattle.bitbox.proofs.bitbox_reader_edition.Statement.{statement}
 use Rattle.bitbox.proofs.bitbox_reader_edition.Tie as tie

@@ -2,7 +2,8 @@
 use mathlib.Core.Path.{sym, ap, _∙_}
 use Prim.Native.Nat.{ℕ}
 use Rattle.answers.specs.Answers.{outcomeSaid}
-use Rattle.bitbox.specs.Words.{written, refusalOf}
+use Rattle.numbers.specs.Numbers.{refusalOf}
+use Rattle.bitbox.specs.Words.{written}
 use Rattle.bitbox.proofs.WordLaws.{written-is}
 use borrow.Author.Needs.{needs}
 use Rattle.bitbox.proofs.of_written.Statement.{statement}

@@ -2,10 +2,10 @@
 use mathlib.Core.Path.{sym, ap, _∙_}
 use Rattle.answers.specs.declared.Outcome.{Outcome}
 use Rattle.answers.specs.Answers.{outcomeSaid}
-use Rattle.bitbox.specs.Words.{refusalOf}
+use Rattle.numbers.specs.Numbers.{refusalOf}
 use borrow.Author.Needs.{needs}
-use Rattle.bitbox.proofs.refusal_of.Statement.{statement}
-use Rattle.bitbox.proofs.refusal_of.Tie as tie
+use Rattle.numbers.proofs.refusal_of.Statement.{statement}
+use Rattle.numbers.proofs.refusal_of.Tie as tie
 
 enum-told : tie.Need-enum-told
 enum-told c = search needs

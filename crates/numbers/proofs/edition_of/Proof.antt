@@ -3,8 +3,8 @@ use mathlib.Core.Path.{sym, ap}
 use mathlib.Core.Bool.{Bool, cond}
 use borrow.Author.Tests.{eq-eqb, ne-eqb}
 use Rattle.wal.specs.declared.Edition.the-variants.{One, Two}
-use Rattle.bitbox.proofs.edition_of.Statement.{statement}
-use Rattle.bitbox.proofs.edition_of.Tie as tie
+use Rattle.numbers.proofs.edition_of.Statement.{statement}
+use Rattle.numbers.proofs.edition_of.Tie as tie
 
 returns : tie.Need-returns
 returns c = sym (ap (λ (t : Bool). cond t Two One) (eq-eqb _ _ (c .if1 .taken)))
