@@ -1,19 +1,24 @@
 //! What the comparison asks of 01 and of ours, call by call, in 01's terms. The original is asked in
 //! its own; see ops/.
 
-use model::{
-    audit::Audited,
-    diff::{Diff, Node, Packed},
-    edition::{Edition, Seed, Start},
-    growth::{Grown, Pending},
-    path::{Found, Probed},
-    reader::Entry,
-    replay::{Replayed, Stepped},
-    sync::{Change, Lent, State, Step, Synced},
-    tags::Kind,
-    writer::Writer,
-    Answer, Refused,
-};
+use terms::*;
+
+/// The terms that calls are asked and answered in.
+pub mod terms {
+    pub use model::{
+        audit::Audited,
+        diff::{Diff, Node, Packed},
+        edition::{Edition, Seed, Start},
+        growth::{Grown, Pending},
+        path::{Found, Probed},
+        reader::Entry,
+        replay::{Replayed, Stepped},
+        sync::{Change, Lent, Place, State, Step, Synced},
+        tags::Kind,
+        writer::Writer,
+        Answer, Refused,
+    };
+}
 
 /// An entry without its fields: 0 end, 1 clear, 2 update; its bucket; the count of its nodes; the position
 /// after it, 0 for end.

@@ -1,20 +1,7 @@
 //! Faults of the comparison's own: each changes one call's answer, or a byte of what it was lent, on one side or on
 //! two alike, and the comparison has to notice it. `compare faults` tries them all, one at a time.
 
-use crate::engine::{Engine, Head};
-use model::{
-    audit::Audited,
-    diff::{Diff, Node, Packed},
-    edition::{Edition, Seed, Start},
-    growth::{Grown, Pending},
-    path::{Found, Probed},
-    reader::Entry,
-    replay::{Replayed, Stepped},
-    sync::{Change, Lent, State, Step, Synced},
-    tags::Kind,
-    writer::Writer,
-    Answer, Refused,
-};
+use crate::engine::{terms::*, Engine, Head};
 use original::{
     growth as theirs,
     sync::{Left, Prepared},

@@ -1,20 +1,8 @@
 //! Ours, by the safe crate over its static library: each call of [`Engine`] in 01's terms. No function here
 //! decides anything.
 
-use crate::engine::{Engine, Head};
-use model::{
-    audit::Audited,
-    diff::{Diff, Node, Packed, NODE},
-    edition::{Edition, Seed, Start},
-    growth::{Grown, Pending},
-    path::{Found, Probed},
-    reader::Entry,
-    replay::{Replayed, Stepped},
-    sync::{Change, Lent, Place, State, Step, Synced},
-    tags::Kind,
-    writer::Writer,
-    Answer, Refused,
-};
+use crate::engine::{terms::*, Engine, Head};
+use model::diff::NODE;
 use std::{
     hint::black_box,
     io::Write,

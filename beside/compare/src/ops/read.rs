@@ -528,19 +528,22 @@ const EVERY: [u8; 256] = {
     all
 };
 
+/// A log, with an end after its records and without; a short one is set and listed too.
+pub fn walked(run: &mut Run, log: Log) {
+    let mut ended = log.clone();
+    ended.records.push(Record::End);
+    for each in [ended, log.clone()] {
+        run.case::<ReadOp>(Walk(each.clone()));
+        if log.records.len() < 3 {
+            run.case::<ReadOp>(List(each.clone()));
+            run.case::<ReadOp>(Set(each));
+        }
+    }
+}
+
 pub fn exhaustive(run: &mut Run) {
     for records in lists(&kinds(2), 3) {
-        for ended in [true, false] {
-            let mut log = Log::new(7, &records);
-            if ended {
-                log.records.push(Record::End);
-            }
-            run.case::<ReadOp>(Walk(log.clone()));
-            if records.len() < 3 {
-                run.case::<ReadOp>(List(log.clone()));
-                run.case::<ReadOp>(Set(log.clone()));
-            }
-        }
+        walked(run, Log::new(7, &records));
     }
     for log in good_logs() {
         for len in [0, 1, 4, 5, 4095, 4096, 4097, 8191, 8192, 8193, 12288, 65_535, 65_536, 65_537, 69_632] {

@@ -6,7 +6,7 @@ use crate::{
     heard::{Did, Heard},
     input::{any_seed, fill, hash_seed, near, Filler, Label, Log, Record, Table},
     ops::{
-        read::{any_log, changed_bytes, good_logs, kinds, lists, update, Input::*, ReadOp},
+        read::{any_log, changed_bytes, good_logs, kinds, lists, update, walked, Input::*, ReadOp},
         replay::{self, ReplayOp},
         sync::{self, SyncOp, Told, CLEARED},
         write::{self, Call, WriteOp},
@@ -174,17 +174,7 @@ fn records(run: &mut Run) {
     let mut some = kinds(2);
     some.extend([2, 3, 4].map(Record::Byte));
     for records in lists(&some, 3) {
-        for ended in [true, false] {
-            let mut log = Log::new(7, &records).of_store(STORE);
-            if ended {
-                log.records.push(Record::End);
-            }
-            run.case::<ReadOp>(Walk(log.clone()));
-            if records.len() < 3 {
-                run.case::<ReadOp>(List(log.clone()));
-                run.case::<ReadOp>(Set(log.clone()));
-            }
-        }
+        walked(run, Log::new(7, &records).of_store(STORE));
     }
 }
 
