@@ -8,7 +8,7 @@ use lib.Dec.{eqb}
 use Rattle.answers.specs.Refusals.{numberOf}
 use Rattle.answers.specs.Answers.{Answer, given, refused, outcomeSaid, numberSaid, truthSaid}
 use Rattle.answers.specs.declared.Refusal.{Refusal}
-use Rattle.answers.specs.declared.Refusal.the-variants.{TableUnfit, LengthUnfit, SlotUnfit, DiffReserved, LogNotPages, LogCut, NoStart, TagUnknown, BucketOutside, PathCrowded, PathClosed, WriterNotOpen, NoRoom, BucketUnfit, MarkerLength, MarkerMagic, MarkerOrder, NothingPending, WouldShrink, PaddingUsed, LabelTwice, TagWrong, EmptyFirst, NotReached, OtherStore}
+use Rattle.answers.specs.declared.Refusal.the-variants.{TableUnfit, LengthUnfit, SlotUnfit, DiffReserved, LogNotPages, LogCut, NoStart, TagUnknown, BucketOutside, PathCrowded, PathClosed, WriterNotOpen, NoRoom, BucketUnfit, MarkerLength, MarkerMagic, MarkerOrder, NothingPending, WouldShrink, PaddingUsed, LabelTwice, TagWrong, EmptyFirst, NotReached, OtherStore, AfterEndUsed}
 use Rattle.answers.specs.declared.Outcome.{Outcome}
 use Rattle.answers.specs.declared.Number.{Number}
 use Rattle.answers.specs.declared.Truth.{Truth}
@@ -43,7 +43,8 @@ named n =
     (cond (eqb n 22) TagWrong
     (cond (eqb n 23) EmptyFirst
     (cond (eqb n 24) NotReached
-    (OtherStore))))))))))))))))))))))))
+    (cond (eqb n 26) OtherStore
+    (AfterEndUsed)))))))))))))))))))))))))
 
 named-number : (r : Refusal) → named (numberOf r) ≡ r
 named-number TableUnfit = refl
@@ -71,6 +72,7 @@ named-number TagWrong = refl
 named-number EmptyFirst = refl
 named-number NotReached = refl
 named-number OtherStore = refl
+named-number AfterEndUsed = refl
 
 -- no two refusals have one number
 pub refusal-one : (a b : Refusal) → numberOf a ≡ numberOf b → a ≡ b

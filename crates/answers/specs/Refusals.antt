@@ -1,7 +1,7 @@
 -- 01, 'Refusal numbers', and those of 02: the number of each refusal. Assumes nothing.
 use Prim.Native.Nat.{ℕ}
 use Rattle.answers.specs.declared.Refusal.{Refusal}
-use Rattle.answers.specs.declared.Refusal.the-variants.{TableUnfit, LengthUnfit, SlotUnfit, DiffReserved, LogNotPages, LogCut, NoStart, TagUnknown, BucketOutside, PathCrowded, PathClosed, WriterNotOpen, NoRoom, BucketUnfit, MarkerLength, MarkerMagic, MarkerOrder, NothingPending, WouldShrink, PaddingUsed, LabelTwice, TagWrong, EmptyFirst, NotReached, OtherStore}
+use Rattle.answers.specs.declared.Refusal.the-variants.{TableUnfit, LengthUnfit, SlotUnfit, DiffReserved, LogNotPages, LogCut, NoStart, TagUnknown, BucketOutside, PathCrowded, PathClosed, WriterNotOpen, NoRoom, BucketUnfit, MarkerLength, MarkerMagic, MarkerOrder, NothingPending, WouldShrink, PaddingUsed, LabelTwice, TagWrong, EmptyFirst, NotReached, OtherStore, AfterEndUsed}
 
 abbrev pub numberOf : Refusal → ℕ
 -- bucket count 0 or above 1,048,576, or table length wrong
@@ -54,3 +54,5 @@ numberOf EmptyFirst = 23
 numberOf NotReached = 24
 -- log of another store (02, W-207)
 numberOf OtherStore = 26
+-- a byte after end not zero (02, W-208)
+numberOf AfterEndUsed = 27

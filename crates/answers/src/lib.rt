@@ -30,6 +30,7 @@ pub enum Refusal {
     EmptyFirst,
     NotReached,
     OtherStore,
+    AfterEndUsed,
 }
 
 // A call that has nothing to say but that it is done.
@@ -81,5 +82,6 @@ pub fn number_of(r: Refusal) -> u8
         Refusal::EmptyFirst => 23,
         Refusal::NotReached => 24,
         Refusal::OtherStore => 26,
+        Refusal::AfterEndUsed => 27,
     }
 }

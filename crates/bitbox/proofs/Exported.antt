@@ -11,6 +11,7 @@ use Rattle.answers.specs.Answers.{given}
 use Rattle.recover.specs.Replay.{applied, replayAnswer, Own}
 use Rattle.recover.specs.declared.Expected.{Expected}
 use Rattle.wal.specs.Run.{endOf}
+use Rattle.wal.specs.declared.AfterEnd.{AfterEnd}
 use Rattle.wal.specs.declared.Start.{Start}
 use Rattle.wal.specs.Reader.{readLog}
 use Rattle.sync.specs.Change.{Mem}
@@ -71,8 +72,8 @@ module _ (n : ℕ) (m : Mem) (pages : List ℕ) (cs : List Change) (from : LogSt
         widths = subst (λ (s : SyncSaid). widthsBy s cs start) done-said (x .widths);
       }
 
-  -- so its log reads back, and replay accepts it with the hashes of the changes that do not clear
-  pub exported-reads-back : readLog (take (r .length) (after .log))
+  -- so its log reads back by every reader, and every replay accepts it with the hashes of the changes that do not clear
+  pub exported-reads-back : (rule : AfterEnd) → readLog rule (take (r .length) (after .log))
       ≡ record {
         entries = entriesOf (startMem m (logStart from)) pages cs 0 (startState n m (logStart from));
         at = endOf (logStart from) (entriesOf (startMem m (logStart from)) pages cs 0 (startState n m (logStart from)));
@@ -80,5 +81,5 @@ module _ (n : ℕ) (m : Mem) (pages : List ℕ) (cs : List Change) (from : LogSt
       }
   exported-reads-back = sync-reads-back (syncStart n w from) m pages cs answered after exported-sync (r .occupied) (r .length) refl
 
-  pub exported-replays : (want : Expected) → Own (logStart from) want → (table : List ℕ) → imageFits n (length table) ≡ true → replayAnswer n table (take (r .length) (after .log)) want (hashesOf cs) ≡ given applied
+  pub exported-replays : (rule : AfterEnd) (want : Expected) → Own (logStart from) want → (table : List ℕ) → imageFits n (length table) ≡ true → replayAnswer rule n table (take (r .length) (after .log)) want (hashesOf cs) ≡ given applied
   exported-replays = sync-replays (syncStart n w from) m pages cs answered after exported-sync (r .occupied) (r .length) refl

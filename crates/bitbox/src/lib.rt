@@ -13,7 +13,8 @@ ghost use Rattle.meta_map.specs.Tags.{empty, tombstone, full, kindOf, isKind, f
 ghost use Rattle.page_diff.specs.Diff.{marked, countOf, setAnswer, setWords, askAnswer, clearedWords, joined, bytesOfWords, readAnswer, readWords};
 ghost use Rattle.page_diff.specs.Pack.{packAnswer, packedOf, unpackAnswer, unpackedPage, packIntoAnswer, packedInto};
 ghost use Rattle.probe.specs.Path.{probeAnswer, lookupAnswer, hitLimit, allocateAnswer, allocatedTags, probedSaid, foundSaid, allocatedSaid};
-ghost use Rattle.wal.specs.Reader.{editionAt, startOf, seedOf, nextAt};
+ghost use Rattle.wal.specs.Reader.{editionAt, startOf, seedOf, nextBy};
+ghost use Rattle.wal.specs.declared.AfterEnd.the-variants.{Zeros, Tolerant};
 ghost use Rattle.wal.specs.Writer.{beginAnswer, beginWriter, beginLog, clearAnswer, updateAnswer, finishAnswer, finishWriter, finishLog};
 ghost use Rattle.wal_read.specs.Head.{headOf, headSaid};
 ghost use Rattle.wal_read.specs.Entry.{whatSaid};
@@ -26,6 +27,7 @@ ghost use Rattle.rehash.specs.Marker.{writeAnswer as writeMarkerAnswer, written
 ghost use Rattle.rehash.specs.Pending.{pendingAnswer, decisionSaid};
 ghost use Rattle.rehash.specs.Growth.{growthAnswer, growthImage, grownSaid};
 ghost use Rattle.validate.specs.Audit.{auditAnswer, auditedSaid};
+ghost use Rattle.bitbox.specs.InnerWords.{Worded};
 ghost use Rattle.numbers.specs.Numbers.{refusalOf, editionOf, editionNumber};
 ghost use Rattle.bitbox.specs.Words.{words, outcomeWords, numberWords, truthWords, probeWords, lookupWords, entryRefusal, entryKind, entryBucket, Read, headWords, logStart, expected, writerOf, writerWords, writtenWords, finishedWords, stateOf, stateWords, stepWords, syncStart, syncWords, StepExport, SyncExport, replayWords, wentWords, markerWords, leftWords, growthWords, auditWords, pair};
 use answers::Number;
@@ -35,6 +37,7 @@ use answers::Truth;
 use page_diff::Diff;
 use page_diff::Packed;
 use sync::Change;
+use wal::AfterEnd;
 use wal::Start;
 use wal::Writer;
 
@@ -796,13 +799,10 @@ pub extern "C" fn bitbox_reader_set(log: &[u8]) -> Answer
     of_number(wal_read::set(log))
 }
 
-// The entry at a position of a log of an edition: 6, 8, 4.
-#[no_mangle]
-pub extern "C" fn bitbox_reader_next(log: &[u8], at: usize, edition: u32) -> Entry
-    ensures { λ r. ⌜ Read (nextAt (editionOf edition) (now (log .entry)) at) at r ⌝ }
+// An entry in words.
+fn of_entry(e: wal_read::WalEntry) -> Entry
+    ensures { λ r. ⌜ Worded e r ⌝ }
 {
-    let ed = numbers::edition_of(edition);
-    let e = wal_read::entry_at(log, at, ed);
     let what = e.what;
     let id = e.id;
     let diff = e.diff;
@@ -818,6 +818,29 @@ pub extern "C" fn bitbox_reader_next(log: &[u8], at: usize, edition: u32) -> Ent
         packed,
         elided,
     }
+}
+
+// The entry at a position of a log of an edition: 6, 8, 4, and 27 where a byte after end is not zero.
+#[no_mangle]
+pub extern "C" fn bitbox_reader_next(log: &[u8], at: usize, edition: u32) -> Entry
+    ensures { λ r. ⌜ Read (nextBy Zeros (editionOf edition) (now (log .entry)) at) at r ⌝ }
+{
+    let ed = numbers::edition_of(edition);
+    of_entry(wal_read::entry_at(log, at, ed))
+}
+
+// The same, whatever follows end: 6, 8, 4. The end is told here, and every other entry is that of `bitbox_reader_next`: so
+// that one, which has no other caller of its parts, is compiled as one function and moves the table of nodes once.
+#[no_mangle]
+pub extern "C" fn bitbox_reader_next_tolerant(log: &[u8], at: usize, edition: u32) -> Entry
+    ensures { λ r. ⌜ Read (nextBy Tolerant (editionOf edition) (now (log .entry)) at) at r ⌝ }
+{
+    let ed = numbers::edition_of(edition);
+    let head = wal_read::head_at_tolerant(log, at, ed);
+    if let wal_read::Head::End = head {
+        return of_entry(wal_read::end_at(at));
+    }
+    bitbox_reader_next(log, at, edition)
 }
 
 fn of_head(h: wal_read::Head, at: usize) -> Head
@@ -859,13 +882,28 @@ fn of_head(h: wal_read::Head, at: usize) -> Head
     }
 }
 
-// The same without its fields: no table is moved.
-#[no_mangle]
-pub extern "C" fn bitbox_reader_head(log: &[u8], at: usize, edition: u32) -> Head
-    ensures { λ r. ⌜ r ≡ headWords (headOf (nextAt (editionOf edition) (now (log .entry)) at)) at ⌝ }
+// The same without its fields, by what is wanted after end.
+fn head_by(log: &[u8], at: usize, edition: u32, rule: AfterEnd) -> Head
+    ensures { λ r. ⌜ r ≡ headWords (headOf (nextBy rule (editionOf edition) (now (log .entry)) at)) at ⌝ }
 {
     let ed = numbers::edition_of(edition);
-    of_head(wal_read::head_at(log, at, ed), at)
+    of_head(wal_read::head_by(log, at, ed, rule), at)
+}
+
+// The entry without its fields: no table is moved.
+#[no_mangle]
+pub extern "C" fn bitbox_reader_head(log: &[u8], at: usize, edition: u32) -> Head
+    ensures { λ r. ⌜ r ≡ headWords (headOf (nextBy Zeros (editionOf edition) (now (log .entry)) at)) at ⌝ }
+{
+    head_by(log, at, edition, AfterEnd::Zeros)
+}
+
+// The same, whatever follows end.
+#[no_mangle]
+pub extern "C" fn bitbox_reader_head_tolerant(log: &[u8], at: usize, edition: u32) -> Head
+    ensures { λ r. ⌜ r ≡ headWords (headOf (nextBy Tolerant (editionOf edition) (now (log .entry)) at)) at ⌝ }
+{
+    head_by(log, at, edition, AfterEnd::Tolerant)
 }
 
 fn entry_refusal(w: wal_read::What) -> u64
@@ -1026,7 +1064,24 @@ pub extern "C" fn bitbox_sync(
 
 // ---- replay
 
-// Replays a log on an image of a store, with a hash for each update: 1, 5, 7, 26, then 6, 8, 4, 9, and 2.
+// Replays a log on an image of a store, with a hash for each update, by what is wanted after end.
+fn replay_by(
+    image: &mut [u8],
+    n: usize,
+    log: &[u8],
+    sync_seqn: u32,
+    seed: [u8; 16],
+    hashes: &[u64],
+    rule: AfterEnd,
+) -> Answer
+    ensures { λ r. ⌜ (r ≡ replayWords (replayAnswer rule n (now (image .entry)) (now (log .entry)) (expected «sync_seqn» seed) (now (hashes .entry)))) × (now (image .exit) ≡ replayImage rule n (now (image .entry)) (now (log .entry)) (expected «sync_seqn» seed) (now (hashes .entry))) ⌝ }
+{
+    let want = expected_of(sync_seqn, seed);
+    of_recovered(recover::recover_by(image, n, log, want, hashes, rule))
+}
+
+// Replays a log on an image of a store, with a hash for each update: 1, 5, 7, 26, then 6, 8, 4, 9, then 27 where a byte
+// after end is not zero, and 2.
 #[no_mangle]
 pub extern "C" fn bitbox_replay(
     image: &mut [u8],
@@ -1036,10 +1091,24 @@ pub extern "C" fn bitbox_replay(
     seed: &[u8; 16],
     hashes: &[u64],
 ) -> Answer
-    ensures { λ r. ⌜ (r ≡ replayWords (replayAnswer n (now (image .entry)) (now (log .entry)) (expected «sync_seqn» (now (seed .entry))) (now (hashes .entry)))) × (now (image .exit) ≡ replayImage n (now (image .entry)) (now (log .entry)) (expected «sync_seqn» (now (seed .entry))) (now (hashes .entry))) ⌝ }
+    ensures { λ r. ⌜ (r ≡ replayWords (replayAnswer Zeros n (now (image .entry)) (now (log .entry)) (expected «sync_seqn» (now (seed .entry))) (now (hashes .entry)))) × (now (image .exit) ≡ replayImage Zeros n (now (image .entry)) (now (log .entry)) (expected «sync_seqn» (now (seed .entry))) (now (hashes .entry))) ⌝ }
 {
-    let want = expected_of(sync_seqn, *seed);
-    of_recovered(recover::recover(image, n, log, want, hashes))
+    replay_by(image, n, log, sync_seqn, *seed, hashes, AfterEnd::Zeros)
+}
+
+// The same, whatever follows end: 1, 5, 7, 26, then 6, 8, 4, 9, and 2.
+#[no_mangle]
+pub extern "C" fn bitbox_replay_tolerant(
+    image: &mut [u8],
+    n: usize,
+    log: &[u8],
+    sync_seqn: u32,
+    seed: &[u8; 16],
+    hashes: &[u64],
+) -> Answer
+    ensures { λ r. ⌜ (r ≡ replayWords (replayAnswer Tolerant n (now (image .entry)) (now (log .entry)) (expected «sync_seqn» (now (seed .entry))) (now (hashes .entry)))) × (now (image .exit) ≡ replayImage Tolerant n (now (image .entry)) (now (log .entry)) (expected «sync_seqn» (now (seed .entry))) (now (hashes .entry))) ⌝ }
+{
+    replay_by(image, n, log, sync_seqn, *seed, hashes, AfterEnd::Tolerant)
 }
 
 fn expected_of(sync: u32, seed: [u8; 16]) -> recover::Expected
@@ -1048,7 +1117,23 @@ fn expected_of(sync: u32, seed: [u8; 16]) -> recover::Expected
     recover::Expected { sync, seed }
 }
 
-// One entry of it, from a log of an edition: 1, 6, 8, 4, 9.
+// One entry of it, from a log of an edition, by what is wanted after end.
+fn step_by(
+    image: &mut [u8],
+    n: usize,
+    log: &[u8],
+    edition: u32,
+    at: usize,
+    hash: u64,
+    rule: AfterEnd,
+) -> Stepped
+    ensures { λ r. ⌜ (r ≡ wentWords (stepAnswer rule n (now (image .entry)) (editionOf edition) (now (log .entry)) at) at) × (now (image .exit) ≡ stepImage rule n (now (image .entry)) (editionOf edition) (now (log .entry)) at hash) ⌝ }
+{
+    let ed = numbers::edition_of(edition);
+    of_stepped(recover::apply_by(image, n, log, ed, at, hash, rule), at)
+}
+
+// One entry of it, from a log of an edition: 1, 6, 8, 4, 9, and 27 where a byte after end is not zero.
 #[no_mangle]
 pub extern "C" fn bitbox_replay_step(
     image: &mut [u8],
@@ -1058,10 +1143,24 @@ pub extern "C" fn bitbox_replay_step(
     at: usize,
     hash: u64,
 ) -> Stepped
-    ensures { λ r. ⌜ (r ≡ wentWords (stepAnswer n (now (image .entry)) (editionOf edition) (now (log .entry)) at) at) × (now (image .exit) ≡ stepImage n (now (image .entry)) (editionOf edition) (now (log .entry)) at hash) ⌝ }
+    ensures { λ r. ⌜ (r ≡ wentWords (stepAnswer Zeros n (now (image .entry)) (editionOf edition) (now (log .entry)) at) at) × (now (image .exit) ≡ stepImage Zeros n (now (image .entry)) (editionOf edition) (now (log .entry)) at hash) ⌝ }
 {
-    let ed = numbers::edition_of(edition);
-    of_stepped(recover::apply_entry(image, n, log, ed, at, hash), at)
+    step_by(image, n, log, edition, at, hash, AfterEnd::Zeros)
+}
+
+// The same, whatever follows end: 1, 6, 8, 4, 9.
+#[no_mangle]
+pub extern "C" fn bitbox_replay_step_tolerant(
+    image: &mut [u8],
+    n: usize,
+    log: &[u8],
+    edition: u32,
+    at: usize,
+    hash: u64,
+) -> Stepped
+    ensures { λ r. ⌜ (r ≡ wentWords (stepAnswer Tolerant n (now (image .entry)) (editionOf edition) (now (log .entry)) at) at) × (now (image .exit) ≡ stepImage Tolerant n (now (image .entry)) (editionOf edition) (now (log .entry)) at hash) ⌝ }
+{
+    step_by(image, n, log, edition, at, hash, AfterEnd::Tolerant)
 }
 
 // ---- growth and audit

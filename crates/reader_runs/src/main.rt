@@ -1,12 +1,14 @@
-// Readers that are asked again: past the end, past a refusal, and moving on, on logs of both editions. The file
-// `stdout` is worked out from document 01 and request W-207 apart from this code.
+// Readers that are asked again: past the end, past a refusal, and moving on, on logs of both editions; and each byte after
+// end set by itself. The file `stdout` is worked out from document 01 and requests W-207 and W-208 apart from this code.
 ghost use mathlib.Core.Path.{_≡_};
 ghost use Prim.Native.Nat.{_+_, _≤_};
 ghost use lib.ListN.{length};
+ghost use Rattle.wal.specs.declared.AfterEnd.the-variants.{Zeros, Tolerant};
 ghost use Rattle.wal.specs.Reader.{startOf};
 ghost use Rattle.wal_read.specs.Entry.{nextOf, Taken};
 ghost use Rattle.wal_read.specs.Set.{firstAt, givesAt};
 use answers::Number;
+use wal::AfterEnd;
 use wal_read::WalEntry;
 use wal_read::What;
 
@@ -29,11 +31,18 @@ fn lay(log: &mut [u8], at: usize, bytes: &[u8])
 
 // What a reader set on a log gives when it is asked a second time.
 fn read_again(log: &[u8]) -> WalEntry
-    ensures { λ e. ⌜ Taken (givesAt (startOf (now (log .entry))) (now (log .entry)) (nextOf (givesAt (startOf (now (log .entry))) (now (log .entry)) (firstAt (now (log .entry)))) (firstAt (now (log .entry))))) (nextOf (givesAt (startOf (now (log .entry))) (now (log .entry)) (firstAt (now (log .entry)))) (firstAt (now (log .entry)))) e ⌝ }
+    ensures { λ e. ⌜ Taken (givesAt Zeros (startOf (now (log .entry))) (now (log .entry)) (nextOf (givesAt Zeros (startOf (now (log .entry))) (now (log .entry)) (firstAt (now (log .entry)))) (firstAt (now (log .entry))))) (nextOf (givesAt Zeros (startOf (now (log .entry))) (now (log .entry)) (firstAt (now (log .entry)))) (firstAt (now (log .entry)))) e ⌝ }
 {
     let mut r = wal_read::new(log);
     wal_read::read_entry(&mut r);
     wal_read::read_entry(&mut r)
+}
+
+// What its tolerant reader gives first.
+fn peek_tolerant(log: &[u8]) -> WalEntry
+    ensures { λ e. ⌜ Taken (givesAt Tolerant (startOf (now (log .entry))) (now (log .entry)) (firstAt (now (log .entry)))) (firstAt (now (log .entry))) e ⌝ }
+{
+    wal_read::peek(wal_read::tolerant(wal_read::new(log)))
 }
 
 // A word and a number.
@@ -114,7 +123,7 @@ fn show_all(log: &[u8]) {
     io::write_all(1, b"\n");
     let mut i: usize = 0;
     while i < 4 {
-        let e = wal_read::entry_set(log, at, start);
+        let e = wal_read::entry_set(log, at, start, AfterEnd::Zeros);
         at = e.next;
         show_entry(e);
         i += 1;
@@ -142,7 +151,108 @@ fn edition_two() {
     show_two(b"-- edition two: 0xB2 as the last byte\n", 4095, b"\xB2");
 }
 
+// The number of a refusal that leaves a reader at `at`; 0 for the end there, 99 for all else.
+fn stop_at(e: WalEntry, at: usize) -> u64 {
+    if e.next != at {
+        return 99;
+    }
+    let what = e.what;
+    match what {
+        What::Refused(why) => answers::number_of(why) as u64,
+        What::End => 0,
+        What::Clear(_) => 99,
+        What::Update(_) => 99,
+    }
+}
+
+// 1 where a log whose end is its first entry gives 27 there, both by the call with a position and by a reader that is asked
+// again; else 0.
+fn refused_twice(log: &[u8], at: usize) -> u64
+    ensures { λ r. ⌜ r ≤ 1 ⌝ }
+{
+    let first = wal_read::entry_set(log, at, wal_read::set(log), AfterEnd::Zeros);
+    if stop_at(first, at) != 27 {
+        return 0;
+    }
+    if stop_at(read_again(log), at) != 27 {
+        return 0;
+    }
+    1
+}
+
+// 1 where its tolerant reader gives end there, and so does the call with the position after that; else 0.
+fn ended_twice(log: &[u8], at: usize) -> u64
+    ensures { λ r. ⌜ r ≤ 1 ⌝ }
+{
+    let first = peek_tolerant(log);
+    if stop_at(first, at) != 0 {
+        return 0;
+    }
+    let again = wal_read::entry_set(log, first.next, wal_read::set(log), AfterEnd::Tolerant);
+    if stop_at(again, at) != 0 {
+        return 0;
+    }
+    1
+}
+
+fn pages() -> [u8; 12288]
+    ensures { λ r. ⌜ 12288 ≡ length r ⌝ }
+{
+    [0; 12288]
+}
+
+// Of a log of n bytes: the position of end, the bytes after it, those at which the reader answers 27 there twice, and those
+// at which the tolerant one answers end there twice.
+fn show_counts(n: usize, at: usize, tried: u64, refused: u64, ended: u64) {
+    word(b"log of ", n as u64);
+    word(b", end at ", at as u64);
+    word(b", bytes after it ", tried);
+    word(b", 27 twice ", refused);
+    word(b", end twice ", ended);
+    io::write_all(1, b"\n");
+}
+
+// A log of n bytes that is a start and an end, then zeros; each byte after end is set by itself.
+fn show_after(bytes: &[u8], n: usize)
+    requires { ⌜ (length (now bytes) ≤ 12288) × (n ≤ 12288) ⌝ }
+{
+    let mut log = pages();
+    lay(&mut log, 0, bytes);
+    let at = wal_read::first_at(bytes);
+    let mut tried: u64 = 0;
+    let mut refused: u64 = 0;
+    let mut ended: u64 = 0;
+    let mut i = bytes.len();
+    while i < n {
+        log[i] = 1;
+        tried += 1;
+        refused += refused_twice(&log[..n], at);
+        ended += ended_twice(&log[..n], at);
+        log[i] = 0;
+        i += 1;
+    }
+    show_counts(n, at, tried, refused, ended);
+}
+
+// Such a log of one page, and of three.
+fn show_pages(title: &[u8], bytes: &[u8])
+    requires { ⌜ length (now bytes) ≤ 12288 ⌝ }
+{
+    io::write_all(1, title);
+    show_after(bytes, 4096);
+    show_after(bytes, 12288);
+}
+
+fn after_end() {
+    show_pages(b"-- a byte after end\n", b"\x01\x07\0\0\0\x02");
+    show_pages(
+        b"-- edition two: a byte after end\n",
+        b"\xB2\x01\x07\0\0\0seed of 16 bytes\xB2\x02",
+    );
+}
+
 fn main() {
     edition_one();
     edition_two();
+    after_end();
 }

@@ -15,6 +15,8 @@ use Rattle.wal.specs.Log.{Entry, finishedLength}
 use Rattle.wal.specs.Reader.{startOf, seedOf, Reading}
 use Rattle.wal.specs.Writer.{finishLog}
 use Rattle.wal.specs.Run.{WideStart, Run, endOf, logOf}
+use Rattle.wal.specs.declared.AfterEnd.{AfterEnd}
+use Rattle.wal.specs.declared.AfterEnd.the-variants.{Tolerant}
 use Rattle.wal.specs.declared.Edition.{Edition}
 use Rattle.wal.specs.declared.Edition.the-variants.{One, Two}
 use Rattle.wal.specs.declared.Start.{Start}
@@ -25,12 +27,12 @@ use Rattle.recover.specs.declared.Expected.{Expected}
 use Rattle.recover.specs.Places.{withHashes, replayed}
 use Rattle.recover.specs.Replay.{Did, nothing, stale, applied, allInside, updatesIn, checkAnswer, storeIn, ofStore, afterStart, Own, replayAnswer, replayImage, imageBy, stepsOf, hashesFit, checkOf, replayTests}
 
-module _ (n : ℕ) (start : Start) (es : List Entry) (wide : WideStart start) (all : AllWellFormed es) (inside : allInside n es ≡ true) where
+module _ (rule : AfterEnd) (n : ℕ) (start : Start) (es : List Entry) (wide : WideStart start) (all : AllWellFormed es) (inside : allInside n es ≡ true) where
   -- the check of its whole log
-  pub check-accepts : (hashes : ℕ) → hashes ≡ updatesIn es → checkAnswer n (logOf start es) hashes ≡ given tt
+  pub check-accepts : (hashes : ℕ) → hashes ≡ updatesIn es → checkAnswer rule n (logOf start es) hashes ≡ given tt
   unfolding checkAnswer
   check-accepts hashes e =
-      ap (checkOf n hashes) (entries-back start es wide all)
+      ap (checkOf n hashes) (entries-back start es wide rule all)
       ∙ ap (λ (t : Bool). cond t (hashesFit hashes (updatesIn es)) (refused 9)) inside
       ∙ ap (λ (t : Bool). cond t (given tt) (refused 2)) (eq-eqb hashes (updatesIn es) e)
 
@@ -47,41 +49,41 @@ module _ (n : ℕ) (start : Start) (es : List Entry) (wide : WideStart start) (a
         go Two e = equal-same (seedOf (logOf start es)) (want .seed) (seed-back start es wide e ∙ sym (own .same-store e))
 
     -- 5. acceptance, for the log of any such entries
-    pub replay-accepts : (table hashes : List ℕ) → imageFits n (length table) ≡ true → length hashes ≡ updatesIn es → replayAnswer n table (logOf start es) want hashes ≡ given applied
+    pub replay-accepts : (table hashes : List ℕ) → imageFits n (length table) ≡ true → length hashes ≡ updatesIn es → replayAnswer rule n table (logOf start es) want hashes ≡ given applied
     unfolding replayTests
     replay-accepts table hashes fits e =
         let log : List ℕ = logOf start es in
-        ap (λ (t : Bool). cond t (cond (eqb (length log) 0) (given nothing) (afterStart (startOf log) log want (checkAnswer n log (length hashes)))) (refused 1)) fits
-        ∙ ap (λ (t : Bool). cond t (given nothing) (afterStart (startOf log) log want (checkAnswer n log (length hashes)))) (ne-eqb (length log) 0 not-empty)
+        ap (λ (t : Bool). cond t (cond (eqb (length log) 0) (given nothing) (afterStart (startOf log) log want (checkAnswer rule n log (length hashes)))) (refused 1)) fits
+        ∙ ap (λ (t : Bool). cond t (given nothing) (afterStart (startOf log) log want (checkAnswer rule n log (length hashes)))) (ne-eqb (length log) 0 not-empty)
         ∙ ap₂ (λ (s : Answer ℕ) (c : Answer (Unit {0})). afterStart s log want c) (start-back start es wide) (check-accepts (length hashes) e)
         ∙ ap (λ (t : Bool). cond t (cond (eqb (start .sync) (want .sync)) (given applied) (given stale)) (refused 26)) of-store
         ∙ ap (λ (t : Bool). cond t (given applied) (given stale)) (eq-eqb (start .sync) (want .sync) (sym (own .same-sync)))
 
     -- the image is then replay's, of exactly the entries written
-    pub replay-applies : (table hashes : List ℕ) → imageFits n (length table) ≡ true → length hashes ≡ updatesIn es → replayImage n table (logOf start es) want hashes ≡ replayed n (withHashes es hashes) table
+    pub replay-applies : (table hashes : List ℕ) → imageFits n (length table) ≡ true → length hashes ≡ updatesIn es → replayImage rule n table (logOf start es) want hashes ≡ replayed n (withHashes es hashes) table
     replay-applies table hashes fits e =
         ap (λ (a : Answer Did). imageBy a table (replayed n (stepsOf (logOf start es) hashes) table)) (replay-accepts table hashes fits e)
-        ∙ ap (λ (r : Reading). replayed n (withHashes (r .entries) hashes) table) (entries-back start es wide all)
+        ∙ ap (λ (r : Reading). replayed n (withHashes (r .entries) hashes) table) (entries-back start es wide Tolerant all)
 
 -- 5. acceptance, for a log that accepted calls wrote and finish closed
-pub finished-accepted : (log₀ : List ℕ) (start : Start) (w : Writer) (log : List ℕ) (es : List Entry) → Run log₀ start w log es → (want : Expected) → Own start want → (n : ℕ) (table hashes : List ℕ)
-    → allInside n es ≡ true → imageFits n (length table) ≡ true → length hashes ≡ updatesIn es → replayAnswer n table (take (finishedLength (start .edition) (endOf start es)) (finishLog log w)) want hashes ≡ given applied
-finished-accepted log₀ start w log es run want own n table hashes inside fits e =
-    ap (λ (l : List ℕ). replayAnswer n table l want hashes) (finished-log log₀ start w log es run)
-    ∙ replay-accepts n start es (run-made log₀ start run .wide) (run-made log₀ start run .all) inside want own table hashes fits e
+pub finished-accepted : (rule : AfterEnd) (log₀ : List ℕ) (start : Start) (w : Writer) (log : List ℕ) (es : List Entry) → Run log₀ start w log es → (want : Expected) → Own start want → (n : ℕ) (table hashes : List ℕ)
+    → allInside n es ≡ true → imageFits n (length table) ≡ true → length hashes ≡ updatesIn es → replayAnswer rule n table (take (finishedLength (start .edition) (endOf start es)) (finishLog log w)) want hashes ≡ given applied
+finished-accepted rule log₀ start w log es run want own n table hashes inside fits e =
+    ap (λ (l : List ℕ). replayAnswer rule n table l want hashes) (finished-log log₀ start w log es run)
+    ∙ replay-accepts rule n start es (run-made log₀ start run .wide) (run-made log₀ start run .all) inside want own table hashes fits e
 
 -- the answer looks at the image's length alone, so it is the same for a table and for what stops leave of it
-pub answer-by-length : (n : ℕ) (a b log : List ℕ) (want : Expected) (hashes : List ℕ) → length a ≡ length b → replayAnswer n a log want hashes ≡ replayAnswer n b log want hashes
+pub answer-by-length : (rule : AfterEnd) (n : ℕ) (a b log : List ℕ) (want : Expected) (hashes : List ℕ) → length a ≡ length b → replayAnswer rule n a log want hashes ≡ replayAnswer rule n b log want hashes
 unfolding replayTests
-answer-by-length n a b log want hashes e =
-    ap (λ (l : ℕ). cond (imageFits n l) (cond (eqb (length log) 0) (given nothing) (afterStart (startOf log) log want (checkAnswer n log (length hashes)))) (refused 1)) e
+answer-by-length rule n a b log want hashes e =
+    ap (λ (l : ℕ). cond (imageFits n l) (cond (eqb (length log) 0) (given nothing) (afterStart (startOf log) log want (checkAnswer rule n log (length hashes)))) (refused 1)) e
 
 -- 6. everything but `applied` leaves the image
-pub nothing-leaves : (n : ℕ) (image log : List ℕ) (want : Expected) (hashes : List ℕ) → replayAnswer n image log want hashes ≡ given nothing → replayImage n image log want hashes ≡ image
-nothing-leaves n image log want hashes e = ap (λ (a : Answer Did). imageBy a image (replayed n (stepsOf log hashes) image)) e
+pub nothing-leaves : (rule : AfterEnd) (n : ℕ) (image log : List ℕ) (want : Expected) (hashes : List ℕ) → replayAnswer rule n image log want hashes ≡ given nothing → replayImage rule n image log want hashes ≡ image
+nothing-leaves rule n image log want hashes e = ap (λ (a : Answer Did). imageBy a image (replayed n (stepsOf log hashes) image)) e
 
-pub stale-leaves : (n : ℕ) (image log : List ℕ) (want : Expected) (hashes : List ℕ) → replayAnswer n image log want hashes ≡ given stale → replayImage n image log want hashes ≡ image
-stale-leaves n image log want hashes e = ap (λ (a : Answer Did). imageBy a image (replayed n (stepsOf log hashes) image)) e
+pub stale-leaves : (rule : AfterEnd) (n : ℕ) (image log : List ℕ) (want : Expected) (hashes : List ℕ) → replayAnswer rule n image log want hashes ≡ given stale → replayImage rule n image log want hashes ≡ image
+stale-leaves rule n image log want hashes e = ap (λ (a : Answer Did). imageBy a image (replayed n (stepsOf log hashes) image)) e
 
-pub refusal-leaves : (n : ℕ) (image log : List ℕ) (want : Expected) (hashes : List ℕ) (k : ℕ) → replayAnswer n image log want hashes ≡ refused k → replayImage n image log want hashes ≡ image
-refusal-leaves n image log want hashes k e = ap (λ (a : Answer Did). imageBy a image (replayed n (stepsOf log hashes) image)) e
+pub refusal-leaves : (rule : AfterEnd) (n : ℕ) (image log : List ℕ) (want : Expected) (hashes : List ℕ) (k : ℕ) → replayAnswer rule n image log want hashes ≡ refused k → replayImage rule n image log want hashes ≡ image
+refusal-leaves rule n image log want hashes k e = ap (λ (a : Answer Did). imageBy a image (replayed n (stepsOf log hashes) image)) e

@@ -5,20 +5,22 @@ use mathlib.Core.Path.{_≡_, refl, sym, ap, ap₂, _∙_}
 use mathlib.Core.Bool.{Bool, true, cond, _&&_}
 use mathlib.Core.Logic.{_⊎_, inl, inr}
 use mathlib.Core.List.{List, [], _∷_, _++_, map}
-use Prim.Native.Nat.{ℕ, zero, suc, _<_, _-_, _^_}
+use Prim.Native.Nat.{ℕ, zero, suc, _+_, _≤_, _<_, _-_, _^_}
 use native.Mathlib.Omega.{arith}
 use lib.Dec.{ltb}
-use lib.ListN.{length, getD, take, replicate, length-replicate, getD-replicate}
+use lib.ListN.{length, getD, take, set, replicate, length-replicate, getD-replicate}
 use borrow.Author.Tests.{ltb-true}
 use Rattle.answers.specs.Answers.{Answer, given, refused}
 use Rattle.answers.specs.declared.Refusal.the-variants.{LogCut, BucketOutside}
-use Rattle.blocks.specs.Blocks.{block, flat, sameBytes}
+use Rattle.blocks.specs.Blocks.{block, flat, sameBytes, allZero}
 use Rattle.ht_file.specs.Places.{imageFits}
 use Rattle.ht_file.proofs.Laws.{both-hold}
 use Rattle.page_diff.specs.Diff.{digit, marked, slotsBelow}
 use Rattle.wal.specs.Log.{Entry, clear, update, editionOne, recordOf, recordsOf}
-use Rattle.wal.specs.Reader.{Reading, startIn, seedOf, nextAt, readBy}
+use Rattle.wal.specs.Reader.{Reading, startIn, seedOf, nextAt, readBy, readLog}
 use Rattle.wal.specs.Run.{WideStart, logOf}
+use Rattle.wal.specs.declared.AfterEnd.{AfterEnd}
+use Rattle.wal.specs.declared.AfterEnd.the-variants.{Zeros, Tolerant}
 use Rattle.wal.specs.declared.Edition.the-variants.{One}
 use Rattle.wal.proofs.Examples.{seed, log-two}
 use Rattle.wal.proofs.RoundTrip.{AllWellFormed, none, more, log-length, start-back, entries-back}
@@ -57,24 +59,24 @@ aDiff bs = 4 ∷ (replicate 32 0 ++ bs)
 -- "Replay: 1, nothing, 5, 7, stale, then the first bad entry (in an update: 6 up to the diff, 4, 6, 9), last the hash
 -- count 2", one bucket
 abbrev replay : List ℕ → ℕ → List ℕ → Answer Did
-replay log sync hashes = replayAnswer 1 (replicate 8192 0) log (under sync) hashes
+replay log sync hashes = replayAnswer Zeros 1 (replicate 8192 0) log (under sync) hashes
 
-pub answers : (replayAnswer 0 [] [] (under 7) [] ∷ replayAnswer 1 (replicate 8191 0) [] (under 7) [] ∷ replay [] 7 [] ∷ replay (replicate 4095 1) 7 [] ∷ replay (replicate 4096 2) 7 [] ∷ replay (page (9 ∷ [])) 8 [] ∷ [])
+pub answers : (replayAnswer Zeros 0 [] [] (under 7) [] ∷ replayAnswer Zeros 1 (replicate 8191 0) [] (under 7) [] ∷ replay [] 7 [] ∷ replay (replicate 4095 1) 7 [] ∷ replay (replicate 4096 2) 7 [] ∷ replay (page (9 ∷ [])) 8 [] ∷ [])
     ∷ (replay (page (9 ∷ [])) 7 [] ∷ replay (page (aDiff (replicate 15 0 ++ (0x40 ∷ [])))) 7 [] ∷ replay (page (aDiff (replicate 15 0xFF ++ (0x3F ∷ [])))) 7 [] ∷ replay (page (aClear 1)) 7 [] ∷ [])
     ∷ (replay (page (aClear 0)) 7 (0 ∷ []) ∷ replay (page anUpdate) 7 [] ∷ replay (page anUpdate) 7 (0 ∷ []) ∷ replay (page (aClear 0)) 7 [] ∷ replay (page (2 ∷ [])) 7 [] ∷ []) ∷ []
     ≡ (refused 1 ∷ refused 1 ∷ given nothing ∷ refused 5 ∷ refused 7 ∷ given stale ∷ []) ∷ (refused 8 ∷ refused 4 ∷ refused 6 ∷ refused 9 ∷ [])
     ∷ (refused 2 ∷ refused 2 ∷ given applied ∷ given applied ∷ given applied ∷ []) ∷ []
-unfolding replayTests startIn checkAnswer allInside updatesIn readBy nextAt block marked slotsBelow
+unfolding replayTests startIn checkAnswer allInside updatesIn readBy nextAt block marked slotsBelow allZero
 answers = refl
 
 -- the step: 1, 6, 8, 4, 9; a clear, an update and the end
 abbrev stepAt : List ℕ → ℕ → Answer Went
-stepAt log at = stepAnswer 1 (replicate 8192 0) One log at
+stepAt log at = stepAnswer Zeros 1 (replicate 8192 0) One log at
 
-pub steps : (stepAnswer 1 (replicate 8191 0) One (page (aClear 0)) 5 ∷ stepAt (page (aClear 0)) 4096 ∷ stepAt (page (aClear 0)) 0 ∷ stepAt (page (aDiff (replicate 15 0 ++ (0x80 ∷ [])))) 5 ∷ stepAt (page (aClear 1)) 5 ∷ [])
+pub steps : (stepAnswer Zeros 1 (replicate 8191 0) One (page (aClear 0)) 5 ∷ stepAt (page (aClear 0)) 4096 ∷ stepAt (page (aClear 0)) 0 ∷ stepAt (page (aDiff (replicate 15 0 ++ (0x80 ∷ [])))) 5 ∷ stepAt (page (aClear 1)) 5 ∷ [])
     ∷ (stepAt (page (aClear 0)) 5 ∷ stepAt (page anUpdate) 5 ∷ stepAt (page (aClear 0)) 14 ∷ []) ∷ []
     ≡ (refused 1 ∷ refused 6 ∷ refused 8 ∷ refused 4 ∷ refused 9 ∷ []) ∷ (given (cleared 14) ∷ given (updated 70) ∷ given atEnd ∷ []) ∷ []
-unfolding stepAnswer nextAt block marked slotsBelow
+unfolding stepAnswer nextAt block marked slotsBelow allZero
 steps = refl
 
 -- each case of the code's answers
@@ -106,7 +108,7 @@ no-update = refl
 
 -- what replay answers on a table under a sync number, and the tag it leaves
 abbrev pub clearedUnder : List ℕ → ℕ → Answer Did × ℕ
-clearedUnder table sync = (replayAnswer 1 table (logOf (editionOne 7) (clear 0 ∷ [])) (under sync) [], getD (replayImage 1 table (logOf (editionOne 7) (clear 0 ∷ [])) (under sync) []) 0 0)
+clearedUnder table sync = (replayAnswer Zeros 1 table (logOf (editionOne 7) (clear 0 ∷ [])) (under sync) [], getD (replayImage Zeros 1 table (logOf (editionOne 7) (clear 0 ∷ [])) (under sync) []) 0 0)
 
 -- for any table of one bucket whose tag is 0
 module _ (table : List ℕ) (long : length table ≡ 8192) (empty : getD table 0 0 ≡ 0) where
@@ -119,16 +121,16 @@ module _ (table : List ℕ) (long : length table ≡ 8192) (empty : getD table 0
 
   under-7 : clearedUnder table 7 ≡ (given applied, 0x7F)
   under-7 =
-      ap₂ (λ (a : Answer Did) (v : ℕ). (a, v)) (replay-accepts 1 (editionOne 7) entries wide well inside (under 7) own table [] fits no-update)
-      (ap (λ (l : List ℕ). getD l 0 0) (replay-applies 1 (editionOne 7) entries wide well inside (under 7) own table [] fits no-update) ∙ replayed-at 1 (withHashes entries []) table 0 (omega arith) ∙ tag-written)
+      ap₂ (λ (a : Answer Did) (v : ℕ). (a, v)) (replay-accepts Zeros 1 (editionOne 7) entries wide well inside (under 7) own table [] fits no-update)
+      (ap (λ (l : List ℕ). getD l 0 0) (replay-applies Zeros 1 (editionOne 7) entries wide well inside (under 7) own table [] fits no-update) ∙ replayed-at 1 (withHashes entries []) table 0 (omega arith) ∙ tag-written)
 
   under-8 : clearedUnder table 8 ≡ (given stale, 0)
   under-8 =
       let log : List ℕ = logOf (editionOne 7) entries in
-      let said : given stale ≡ replayAnswer 1 table log (under 8) [] =
-      other-sync 1 log 7 (under 8) 0 refl (λ z. omega arith)
-      ∙ replay-started 1 (length table) log (under 8) 0 fits (λ z. omega (arith, log-length (editionOne 7) entries wide)) (given 7) (start-back (editionOne 7) entries wide) in
-      ap₂ (λ (a : Answer Did) (v : ℕ). (a, v)) (sym said) (ap (λ (l : List ℕ). getD l 0 0) (stale-leaves 1 table log (under 8) [] (sym said)) ∙ empty)
+      let said : given stale ≡ replayAnswer Zeros 1 table log (under 8) [] =
+      other-sync Zeros 1 log 7 (under 8) 0 refl (λ z. omega arith)
+      ∙ replay-started Zeros 1 (length table) log (under 8) 0 fits (λ z. omega (arith, log-length (editionOne 7) entries wide)) (given 7) (start-back (editionOne 7) entries wide) in
+      ap₂ (λ (a : Answer Did) (v : ℕ). (a, v)) (sym said) (ap (λ (l : List ℕ). getD l 0 0) (stale-leaves Zeros 1 table log (under 8) [] (sym said)) ∙ empty)
 
   both : map (clearedUnder table) (7 ∷ 8 ∷ []) ≡ (given applied, 0x7F) ∷ (given stale, 0) ∷ []
   both = ap₂ (λ (a b : Answer Did × ℕ). a ∷ b ∷ []) under-7 under-8
@@ -172,21 +174,21 @@ cut-well =
     rows (suc i) h = absurd (omega arith)
 
 cut-steps : stepsOf cutLog (0 ∷ []) ≡ withHashes cutEntries (0 ∷ [])
-cut-steps = ap (λ (r : Reading). withHashes (r .entries) (0 ∷ [])) (entries-back (editionOne 7) cutEntries wide cut-well)
+cut-steps = ap (λ (r : Reading). withHashes (r .entries) (0 ∷ [])) (entries-back (editionOne 7) cutEntries wide Tolerant cut-well)
 
 long : length zeros ≡ 8192
 long = length-replicate {A = ℕ} 8192 0
 
 -- the log is accepted for the table
-pub cut-accepted : replayAnswer 1 zeros cutLog (under 7) (0 ∷ []) ≡ given applied
+pub cut-accepted : replayAnswer Zeros 1 zeros cutLog (under 7) (0 ∷ []) ≡ given applied
 unfolding allInside updatesIn
-cut-accepted = replay-accepts 1 (editionOne 7) cutEntries wide cut-well refl (under 7) own zeros (0 ∷ []) (ap (imageFits 1) long) refl
+cut-accepted = replay-accepts Zeros 1 (editionOne 7) cutEntries wide cut-well refl (under 7) own zeros (0 ∷ []) (ap (imageFits 1) long) refl
 
 -- the tag that the update's call writes
-cut-tag : getD (calls 1 cutLog (0 ∷ []) zeros 1 .image) 0 0 ≡ 0x80
+cut-tag : getD (calls Zeros 1 cutLog (0 ∷ []) zeros 1 .image) 0 0 ≡ 0x80
 unfolding withHashes valueAt namedIn entryNames entryGives
 cut-tag =
-    ap (λ (l : List ℕ). getD l 0 0) (calls-make 1 zeros cutLog (under 7) (0 ∷ []) cut-accepted 1) ∙ ap (λ (ss : List Step). getD (replayed 1 (take 1 ss) zeros) 0 0) cut-steps
+    ap (λ (l : List ℕ). getD l 0 0) (calls-make Zeros 1 zeros cutLog (under 7) (0 ∷ []) cut-accepted 1) ∙ ap (λ (ss : List Step). getD (replayed 1 (take 1 ss) zeros) 0 0) cut-steps
     ∙ replayed-at 1 (take 1 (withHashes cutEntries (0 ∷ []))) zeros 0 (omega (arith, long))
 
 -- the image is not the table's, and a stop inside the first call leaves it
@@ -194,23 +196,23 @@ pub cut-differs : cutImage ≡ zeros → ⊥
 cut-differs e =
     let z : _≡_ {A = ℕ} 0x80 0 = ap (λ (l : List ℕ). getD l 0 0) e ∙ getD-replicate {A = ℕ} 8192 0 0 0 (omega arith) in omega arith
 
-pub cut-left : Cut 1 cutLog (0 ∷ []) zeros cutImage
+pub cut-left : Cut Zeros 1 cutLog (0 ∷ []) zeros cutImage
 unfolding calls
 cut-left = cut-inside zeros cutImage 0 uncut (record { long = ap suc (length-replicate {A = ℕ} 8191 0) ∙ sym long; each = each })
   where
-    each : (j : ℕ) → j < length zeros → (getD cutImage j 0 ≡ getD zeros j 0) ⊎ (getD cutImage j 0 ≡ getD (calls 1 cutLog (0 ∷ []) zeros 1 .image) j 0)
+    each : (j : ℕ) → j < length zeros → (getD cutImage j 0 ≡ getD zeros j 0) ⊎ (getD cutImage j 0 ≡ getD (calls Zeros 1 cutLog (0 ∷ []) zeros 1 .image) j 0)
     each zero h = inr (sym cut-tag)
     each (suc i) h = inl (getD-replicate {A = ℕ} 8191 i 0 0 (omega (arith, long)) ∙ sym (getD-replicate {A = ℕ} 8192 (suc i) 0 0 (omega (arith, long))))
 
 -- so it differs from the table only in places that the log names
 pub cut-only : OnlyNamed 1 (stepsOf cutLog (0 ∷ [])) zeros cutImage
-cut-only = stopped-only 1 (stepsOf cutLog (0 ∷ [])) zeros (cut-stopped 1 zeros cutLog (under 7) (0 ∷ []) cut-accepted cut-left)
+cut-only = stopped-only 1 (stepsOf cutLog (0 ∷ [])) zeros (cut-stopped Zeros 1 zeros cutLog (under 7) (0 ∷ []) cut-accepted cut-left)
 
 -- replay from there: applied; the clear's tag, the update's node in slot 0, the table's zeros in slot 1, the update's
 -- elided children and id
-cut-value : (j : ℕ) → j < 8192 → getD (replayImage 1 cutImage cutLog (under 7) (0 ∷ [])) j 0 ≡ valueAt 1 (withHashes cutEntries (0 ∷ [])) (getD zeros j 0) j
+cut-value : (j : ℕ) → j < 8192 → getD (replayImage Zeros 1 cutImage cutLog (under 7) (0 ∷ [])) j 0 ≡ valueAt 1 (withHashes cutEntries (0 ∷ [])) (getD zeros j 0) j
 cut-value j h =
-    ap (λ (l : List ℕ). getD l j 0) (demand-3 1 zeros cutLog (under 7) (0 ∷ []) cut-accepted cutImage cut-only .1 ∙ applied-image 1 zeros cutLog (under 7) (0 ∷ []) cut-accepted)
+    ap (λ (l : List ℕ). getD l j 0) (demand-3 Zeros 1 zeros cutLog (under 7) (0 ∷ []) cut-accepted cutImage cut-only .1 ∙ applied-image Zeros 1 zeros cutLog (under 7) (0 ∷ []) cut-accepted)
     ∙ ap (λ (ss : List Step). getD (replayed 1 ss zeros) j 0) cut-steps ∙ replayed-at 1 (withHashes cutEntries (0 ∷ [])) zeros j (omega (arith, long))
 
 -- two functions that agree below 8,192 give the same list of places there
@@ -229,22 +231,22 @@ same-places f g e (j ∷ js) h =
 abbrev pub places : List ℕ
 places = 0 ∷ 1 ∷ 4096 ∷ 4128 ∷ 8151 ∷ 8152 ∷ 8159 ∷ 8160 ∷ 8191 ∷ []
 
-pub cut-ends : (replayAnswer 1 cutImage cutLog (under 7) (0 ∷ []) ≡ given applied)
-    × (map (λ j. getD (replayImage 1 cutImage cutLog (under 7) (0 ∷ [])) j 0) places ≡ 0x7F ∷ 0 ∷ 5 ∷ 0 ∷ 0 ∷ 2 ∷ 2 ∷ 1 ∷ 1 ∷ [])
+pub cut-ends : (replayAnswer Zeros 1 cutImage cutLog (under 7) (0 ∷ []) ≡ given applied)
+    × (map (λ j. getD (replayImage Zeros 1 cutImage cutLog (under 7) (0 ∷ [])) j 0) places ≡ 0x7F ∷ 0 ∷ 5 ∷ 0 ∷ 0 ∷ 2 ∷ 2 ∷ 1 ∷ 1 ∷ [])
 unfolding withHashes valueAt namedIn entryNames entryGives slotsBelow marked digit
 cut-ends = (
-  demand-3 1 zeros cutLog (under 7) (0 ∷ []) cut-accepted cutImage cut-only .0,
-  same-places (λ j. getD (replayImage 1 cutImage cutLog (under 7) (0 ∷ [])) j 0) (λ j. valueAt 1 (withHashes cutEntries (0 ∷ [])) (getD zeros j 0) j) cut-value places refl,
+  demand-3 Zeros 1 zeros cutLog (under 7) (0 ∷ []) cut-accepted cutImage cut-only .0,
+  same-places (λ j. getD (replayImage Zeros 1 cutImage cutLog (under 7) (0 ∷ [])) j 0) (λ j. valueAt 1 (withHashes cutEntries (0 ∷ [])) (getD zeros j 0) j) cut-value places refl,
 )
 
 -- the step over the update alone, with a hash whose tag is 81: its own tag instead of the clear's
-pub step-ends : map (λ j. getD (stepImage 1 zeros One cutLog 5 (2 ^ 57)) j 0) places ≡ 0x81 ∷ 0 ∷ 5 ∷ 0 ∷ 0 ∷ 2 ∷ 2 ∷ 1 ∷ 1 ∷ []
-unfolding entryNames entryGives slotsBelow marked digit nextAt block recordsOf recordOf flat
+pub step-ends : map (λ j. getD (stepImage Zeros 1 zeros One cutLog 5 (2 ^ 57)) j 0) places ≡ 0x81 ∷ 0 ∷ 5 ∷ 0 ∷ 0 ∷ 2 ∷ 2 ∷ 1 ∷ 1 ∷ []
+unfolding entryNames entryGives slotsBelow marked digit nextAt block recordsOf recordOf flat allZero
 step-ends =
     let e = update (replicate 32 1) (1 ∷ 0 ∷ []) cutNodes (replicate 8 2) 0 in
     let s : Step = record { entry = e; hash = 2 ^ 57 } in
-    let stepped-image = step-taken 1 zeros One cutLog 5 (2 ^ 57) (ap (imageFits 1) long) e 102 refl (omega arith) .1 in
-    same-places (λ j. getD (stepImage 1 zeros One cutLog 5 (2 ^ 57)) j 0) (λ j. cond (names 1 s j) (gives 1 s j) (getD zeros j 0))
+    let stepped-image = step-taken Zeros 1 zeros One cutLog 5 (2 ^ 57) (ap (imageFits 1) long) e 102 refl (omega arith) .1 in
+    same-places (λ j. getD (stepImage Zeros 1 zeros One cutLog 5 (2 ^ 57)) j 0) (λ j. cond (names 1 s j) (gives 1 s j) (getD zeros j 0))
     (λ j h. ap (λ (l : List ℕ). getD l j 0) (sym stepped-image) ∙ stepped-at 1 s zeros j (omega (arith, long))) places refl
 
 -- ---- "26, log of another store, after 7 and before stale": the log of edition two whose seed is `seed`, under a seed that differs in its last byte
@@ -252,10 +254,35 @@ abbrev other : ℕ → Expected
 other sync = record { sync = sync; seed = 10 ∷ 11 ∷ 12 ∷ 13 ∷ 14 ∷ 15 ∷ 16 ∷ 17 ∷ 18 ∷ 19 ∷ 20 ∷ 21 ∷ 22 ∷ 23 ∷ 24 ∷ 26 ∷ [] }
 
 abbrev onTable : List ℕ → Expected → Answer Did
-onTable log want = replayAnswer 1 (replicate 8192 0) log want []
+onTable log want = replayAnswer Zeros 1 (replicate 8192 0) log want []
 
 -- its own number and seed; another number; another seed; both; a log of edition one under another seed; 5 and 7 come first
 pub stores : onTable log-two (under 7) ∷ onTable log-two (under 8) ∷ onTable log-two (other 7) ∷ onTable log-two (other 8) ∷ onTable (page (aClear 0)) (other 7) ∷ onTable (take 4095 log-two) (other 7) ∷ onTable (0xB2 ∷ 2 ∷ replicate 4094 0) (other 7) ∷ []
     ≡ refused 9 ∷ given stale ∷ refused 26 ∷ refused 26 ∷ given applied ∷ refused 5 ∷ refused 7 ∷ []
-unfolding replayTests startIn seedOf sameBytes checkAnswer allInside updatesIn readBy nextAt block marked slotsBelow
+unfolding replayTests startIn seedOf sameBytes checkAnswer allInside updatesIn readBy nextAt block marked slotsBelow allZero
 stores = refl
+
+-- ---- "27 [..] in replay after the entries and before the hash count", after stale and every entry's refusal; what was accepted before is accepted by
+-- the tolerant call. The first byte after end, and the last of the log, in both editions
+abbrev spoilt : List ℕ → ℕ → List ℕ
+spoilt log at = set log at 1
+
+abbrev byRule : AfterEnd → List ℕ → ℕ → List ℕ → Answer Did
+byRule rule log sync hashes = replayAnswer rule 4 (replicate 20480 0) log (under sync) hashes
+
+abbrev onSpoilt : AfterEnd → List (Answer Did)
+onSpoilt rule =
+    byRule rule (spoilt (page (aClear 0)) 15) 7 [] ∷ byRule rule (spoilt (page (aClear 0)) 4095) 7 (0 ∷ []) ∷ byRule rule (spoilt (page (aClear 0)) 4095) 8 []
+    ∷ byRule rule (spoilt (page (aClear 4)) 4095) 7 [] ∷ byRule rule (spoilt log-two 34) 7 [] ∷ byRule rule (page (aClear 0)) 7 [] ∷ []
+
+pub endings : (onSpoilt Zeros ≡ refused 27 ∷ refused 27 ∷ given stale ∷ refused 9 ∷ refused 27 ∷ given applied ∷ [])
+    × (onSpoilt Tolerant ≡ given applied ∷ refused 2 ∷ given stale ∷ refused 9 ∷ given applied ∷ given applied ∷ [])
+    × (stepAnswer Zeros 1 (replicate 8192 0) One (spoilt (page (aClear 0)) 15) 14 ∷ stepAnswer Zeros 1 (replicate 8192 0) One (spoilt (page (aClear 0)) 15) 5 ∷ stepAnswer Tolerant 1 (replicate 8192 0) One (spoilt (page (aClear 0)) 15) 14 ∷ []
+    ≡ refused 27 ∷ given (cleared 14) ∷ given atEnd ∷ [])
+unfolding replayTests stepAnswer startIn seedOf sameBytes checkAnswer allInside updatesIn readBy nextAt block marked slotsBelow allZero
+endings = (refl, refl, refl)
+
+-- a log that `Endings.used-refused` speaks of: accepted by the tolerant call, with its end at 14 and a 1 at 15
+pub spoilt-met : let log : List ℕ = spoilt (page (aClear 0)) 15 in (byRule Tolerant log 7 [] ≡ given applied) × (readLog Tolerant log .at + 1 ≤ 15) × (getD log 15 0 ≡ 0 → ⊥)
+unfolding replayTests startIn checkAnswer allInside updatesIn readBy nextAt block marked slotsBelow
+spoilt-met = (refl, omega arith, λ e. omega arith)

@@ -8,6 +8,7 @@ pub mod Pages
 pub mod Checks
 pub mod Steps
 pub mod Runs
+pub mod Endings
 pub mod Replays
 pub mod OneAnswer
 pub mod Examples

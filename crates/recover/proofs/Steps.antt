@@ -22,37 +22,38 @@ use Rattle.ht_file.proofs.Laws.{table-unfit}
 use Rattle.meta_map.specs.Tags.{fullTag}
 use Rattle.page_diff.specs.Diff.{marked}
 use Rattle.wal.specs.Log.{Entry, clear, update}
-use Rattle.wal.specs.Reader.{Next, next, ended, stopped, nextAt}
+use Rattle.wal.specs.Reader.{Next, next, ended, stopped, nextBy}
 use Rattle.wal_read.specs.Head.{headOf, headSaid}
 use Rattle.wal_read.specs.declared.Head.{Head}
 use Rattle.wal_read.specs.declared.Head.the-variants as head
 use Rattle.wal_read.proofs.Head as HeadT
 use Rattle.wal_read.proofs.ReadLaws.{head-end, head-stop}
+use Rattle.wal.specs.declared.AfterEnd.{AfterEnd}
 use Rattle.wal.specs.declared.Edition.{Edition}
 use Rattle.recover.specs.Places.{Step, entryNames, entryGives, names, gives, inPage, pageNamed, pageGives, pageAfter, stepped}
 use Rattle.recover.specs.Replay.{bucketOf, Went, wentTo, byNext, stepAnswer, stepBy, stepImage}
 use Rattle.recover.specs.InnerStops.{stepStop}
 
 -- ---- the answer, test by test
-module _ (n : ℕ) (image : List ℕ) (ed : Edition) (log : List ℕ) (at h : ℕ) where
+module _ (rule : AfterEnd) (n : ℕ) (image : List ℕ) (ed : Edition) (log : List ℕ) (at h : ℕ) where
   -- the table is unfit
-  pub step-unfit : (m : ℕ) → ifTable {A = Unit {0}} (imageFits n (length image)) (given tt) ≡ refused m → (refused m ≡ stepAnswer n image ed log at) × (image ≡ stepImage n image ed log at h)
+  pub step-unfit : (m : ℕ) → ifTable {A = Unit {0}} (imageFits n (length image)) (given tt) ≡ refused m → (refused m ≡ stepAnswer rule n image ed log at) × (image ≡ stepImage rule n image ed log at h)
   unfolding stepAnswer stepImage
   step-unfit m e =
-      let a : refused m ≡ stepAnswer n image ed log at = table-unfit (imageFits n (length image)) m (byNext n (nextAt ed log at)) e in
-      (a, ap (λ (x : Answer Went). cond (accepted x) (stepBy n (nextAt ed log at) h image) image) a)
+      let a : refused m ≡ stepAnswer rule n image ed log at = table-unfit (imageFits n (length image)) m (byNext n (nextBy rule ed log at)) e in
+      (a, ap (λ (x : Answer Went). cond (accepted x) (stepBy n (nextBy rule ed log at) h image) image) a)
 
   module _ (fits : imageFits n (length image) ≡ true) where
-    pub by-next : (x : Next) → nextAt ed log at ≡ x → stepAnswer n image ed log at ≡ byNext n x
+    pub by-next : (x : Next) → nextBy rule ed log at ≡ x → stepAnswer rule n image ed log at ≡ byNext n x
     unfolding stepAnswer
-    by-next x e = ap (λ (t : Bool). cond t (byNext n (nextAt ed log at)) (refused 1)) fits ∙ ap (byNext n) e
+    by-next x e = ap (λ (t : Bool). cond t (byNext n (nextBy rule ed log at)) (refused 1)) fits ∙ ap (byNext n) e
 
-    pub image-by : (x : Next) → nextAt ed log at ≡ x → stepImage n image ed log at h ≡ cond (accepted (byNext n x)) (stepBy n x h image) image
+    pub image-by : (x : Next) → nextBy rule ed log at ≡ x → stepImage rule n image ed log at h ≡ cond (accepted (byNext n x)) (stepBy n x h image) image
     unfolding stepImage
     image-by x e = ap₂ (λ (a : Answer Went) (y : Next). cond (accepted a) (stepBy n y h image) image) (by-next x e) e
 
     -- an entry outside the table
-    pub step-outside : (e : Entry) (p : ℕ) → nextAt ed log at ≡ next e p → n ≤ bucketOf e → (refused 9 ≡ stepAnswer n image ed log at) × (image ≡ stepImage n image ed log at h)
+    pub step-outside : (e : Entry) (p : ℕ) → nextBy rule ed log at ≡ next e p → n ≤ bucketOf e → (refused 9 ≡ stepAnswer rule n image ed log at) × (image ≡ stepImage rule n image ed log at h)
     step-outside e p q l =
         let t : ltb (bucketOf e) n ≡ false = le-ltb (bucketOf e) n l in (
           sym (by-next (next e p) q ∙ ap (λ (b : Bool). cond b (given (wentTo e p)) (refused 9)) t),
@@ -60,7 +61,7 @@ module _ (n : ℕ) (image : List ℕ) (ed : Edition) (log : List ℕ) (at h : �
         )
 
     -- an entry inside it
-    pub step-taken : (e : Entry) (p : ℕ) → nextAt ed log at ≡ next e p → bucketOf e < n → (given (wentTo e p) ≡ stepAnswer n image ed log at) × (stepped n (record { entry = e; hash = h }) image ≡ stepImage n image ed log at h)
+    pub step-taken : (e : Entry) (p : ℕ) → nextBy rule ed log at ≡ next e p → bucketOf e < n → (given (wentTo e p) ≡ stepAnswer rule n image ed log at) × (stepped n (record { entry = e; hash = h }) image ≡ stepImage rule n image ed log at h)
     step-taken e p q l =
         let t : ltb (bucketOf e) n ≡ true = lt-ltb (bucketOf e) n l in (
           sym (by-next (next e p) q ∙ ap (λ (b : Bool). cond b (given (wentTo e p)) (refused 9)) t),
@@ -68,8 +69,8 @@ module _ (n : ℕ) (image : List ℕ) (ed : Edition) (log : List ℕ) (at h : �
         )
 
     -- where the reading stops
-    pub step-stop : (x : Head) → headSaid x ≡ headOf (nextAt ed log at) → OneOf (1 ∷ 2 ∷ 3 ∷ []) (tagOf HeadT.the-type x) → OneOf (0 ∷ 2 ∷ 3 ∷ []) (tagOf HeadT.the-type x)
-        → (stepStop (headSaid x) ≡ stepAnswer n image ed log at) × (image ≡ stepImage n image ed log at h)
+    pub step-stop : (x : Head) → headSaid x ≡ headOf (nextBy rule ed log at) → OneOf (1 ∷ 2 ∷ 3 ∷ []) (tagOf HeadT.the-type x) → OneOf (0 ∷ 2 ∷ 3 ∷ []) (tagOf HeadT.the-type x)
+        → (stepStop (headSaid x) ≡ stepAnswer rule n image ed log at) × (image ≡ stepImage rule n image ed log at h)
     step-stop (head.Clear b p) e o q = absurd (none 0 refl o)
       where
         none : (t : ℕ) → t ≡ 0 → (t ≡ 1) ⊎ ((t ≡ 2) ⊎ (t ≡ 3)) → ⊥
@@ -79,9 +80,9 @@ module _ (n : ℕ) (image : List ℕ) (ed : Edition) (log : List ℕ) (at h : �
         none : (t : ℕ) → t ≡ 1 → (t ≡ 0) ⊎ ((t ≡ 2) ⊎ (t ≡ 3)) → ⊥
         none t z = ⊎-elim (λ (y : t ≡ 0). omega arith) (⊎-elim (λ (y : t ≡ 2). omega arith) (λ (y : t ≡ 3). omega arith))
     step-stop head.End e o q =
-        let s = head-end (nextAt ed log at) e in (sym (by-next ended s), sym (image-by ended s))
+        let s = head-end (nextBy rule ed log at) e in (sym (by-next ended s), sym (image-by ended s))
     step-stop (head.Refused r) e o q =
-        let s = head-stop (nextAt ed log at) (numberOf r) e in (sym (by-next (stopped (numberOf r)) s), sym (image-by (stopped (numberOf r)) s))
+        let s = head-stop (nextBy rule ed log at) (numberOf r) e in (sym (by-next (stopped (numberOf r)) s), sym (image-by (stopped (numberOf r)) s))
 
 -- ---- the bytes: what is equal at each place to the definition is it
 stepped-is : (n : ℕ) (s : Step) (image out : List ℕ) → length out ≡ length image → ((j : ℕ) → j < length image → getD out j 0 ≡ cond (names n s j) (gives n s j) (getD image j 0)) → out ≡ stepped n s image

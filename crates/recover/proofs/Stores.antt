@@ -12,6 +12,7 @@ use Rattle.ht_file.specs.Places.{imageFits}
 use Rattle.wal.specs.Log.{startRecord}
 use Rattle.wal.specs.Reader.{editionAt, startOf, seedOf}
 use Rattle.wal.specs.Run.{WideStart}
+use Rattle.wal.specs.declared.AfterEnd.{AfterEnd}
 use Rattle.wal.specs.declared.Edition.{Edition}
 use Rattle.wal.specs.declared.Edition.the-variants.{Two}
 use Rattle.wal.specs.declared.Start.{Start}
@@ -24,7 +25,7 @@ use Rattle.recover.proofs.Replays.{other-store, replay-started}
 
 -- a log of edition two with a start whose seed is another: 26, and the image stays, whatever the log holds after its start, whatever sync number is
 -- expected and whatever hashes are lent
-module _ (n : ℕ) (image log : List ℕ) (want : Expected) (hashes : List ℕ) (fits : imageFits n (length image) ≡ true) (two : editionAt log ≡ Two) (s : ℕ) (start : startOf log ≡ given s)
+module _ (rule : AfterEnd) (n : ℕ) (image log : List ℕ) (want : Expected) (hashes : List ℕ) (fits : imageFits n (length image) ≡ true) (two : editionAt log ≡ Two) (s : ℕ) (start : startOf log ≡ given s)
     (differs : seedOf log ≡ want .seed → ⊥) where
   not-ours : ofStore log (want .seed) ≡ false
   not-ours = ap (λ (ed : Edition). storeIn ed log (want .seed)) two ∙ go (sameBytes (seedOf log) (want .seed)) refl
@@ -33,17 +34,17 @@ module _ (n : ℕ) (image log : List ℕ) (want : Expected) (hashes : List ℕ) 
       go true e = absurd (differs (same-equal (seedOf log) (want .seed) e))
       go false e = e
 
-  answer-26 : replayAnswer n image log want hashes ≡ refused 26
+  answer-26 : replayAnswer rule n image log want hashes ≡ refused 26
   answer-26 =
-      sym (other-store n log s want (length hashes) not-ours
-      ∙ replay-started n (length image) log want (length hashes) fits (λ z. omega (arith, start-long (editionAt log) log s start)) (given s) start)
+      sym (other-store rule n log s want (length hashes) not-ours
+      ∙ replay-started rule n (length image) log want (length hashes) fits (λ z. omega (arith, start-long (editionAt log) log s start)) (given s) start)
 
-  pub other-store-refused : (replayAnswer n image log want hashes ≡ refused 26) × (replayImage n image log want hashes ≡ image)
-  other-store-refused = (answer-26, refusal-leaves n image log want hashes 26 answer-26)
+  pub other-store-refused : (replayAnswer rule n image log want hashes ≡ refused 26) × (replayImage rule n image log want hashes ≡ image)
+  other-store-refused = (answer-26, refusal-leaves rule n image log want hashes 26 answer-26)
 
 -- the same from the bytes: a start of edition two, and any bytes after it that fill the pages
-pub rehearsal-refused : (n : ℕ) (image : List ℕ) (start : Start) (rest : List ℕ) (want : Expected) (hashes : List ℕ) → imageFits n (length image) ≡ true → WideStart start → start .edition ≡ Two
+pub rehearsal-refused : (rule : AfterEnd) (n : ℕ) (image : List ℕ) (start : Start) (rest : List ℕ) (want : Expected) (hashes : List ℕ) → imageFits n (length image) ≡ true → WideStart start → start .edition ≡ Two
     → length (startRecord start ++ rest) % 4096 ≡ 0 → (start .seed ≡ want .seed → ⊥)
-    → (replayAnswer n image (startRecord start ++ rest) want hashes ≡ refused 26) × (replayImage n image (startRecord start ++ rest) want hashes ≡ image)
-rehearsal-refused n image start rest want hashes fits wide two pages differs =
-    other-store-refused n image (startRecord start ++ rest) want hashes fits (edition-told start rest ∙ two) (start .sync) (start-told start rest wide pages) (λ e. differs (sym (seed-told start rest wide two) ∙ e))
+    → (replayAnswer rule n image (startRecord start ++ rest) want hashes ≡ refused 26) × (replayImage rule n image (startRecord start ++ rest) want hashes ≡ image)
+rehearsal-refused rule n image start rest want hashes fits wide two pages differs =
+    other-store-refused rule n image (startRecord start ++ rest) want hashes fits (edition-told start rest ∙ two) (start .sync) (start-told start rest wide pages) (λ e. differs (sym (seed-told start rest wide two) ∙ e))

@@ -6,6 +6,7 @@ use lib.ListN.{getD}
 use Rattle.answers.specs.Answers.{Answer, given, refused}
 use Rattle.wal.specs.Log.{startSize}
 use Rattle.wal.specs.Reader.{editionAt}
+use Rattle.wal.specs.declared.AfterEnd.{AfterEnd}
 use Rattle.recover.specs.Replay.{Went, cleared, updated, atEnd, stepAnswer, stepImage, Mix}
 
 -- where the calls stand: the image, the position last answered, and how many updates have had their hash
@@ -22,18 +23,18 @@ movedBy (given atEnd) image w = record { image = image; at = w .at; used = w .us
 movedBy (refused k) image w = record { image = image; at = w .at; used = w .used }
 
 -- one call of `apply_entry`, by its promise, with the hash of its update (a clear looks at none)
-abbrev pub called : ℕ → List ℕ → List ℕ → Stand → Stand
-called n log hashes w =
-    movedBy (stepAnswer n (w .image) (editionAt log) log (w .at)) (stepImage n (w .image) (editionAt log) log (w .at) (getD hashes (w .used) 0)) w
+abbrev pub called : AfterEnd → ℕ → List ℕ → List ℕ → Stand → Stand
+called rule n log hashes w =
+    movedBy (stepAnswer rule n (w .image) (editionAt log) log (w .at)) (stepImage rule n (w .image) (editionAt log) log (w .at) (getD hashes (w .used) 0)) w
 
 -- so many calls on an image, from the first entry on
-unfoldable pub calls : ℕ → List ℕ → List ℕ → List ℕ → ℕ → Stand
-calls n log hashes image zero = record { image = image; at = startSize (editionAt log); used = 0 }
-calls n log hashes image (suc k) = called n log hashes (calls n log hashes image k)
+unfoldable pub calls : AfterEnd → ℕ → List ℕ → List ℕ → List ℕ → ℕ → Stand
+calls rule n log hashes image zero = record { image = image; at = startSize (editionAt log); used = 0 }
+calls rule n log hashes image (suc k) = called rule n log hashes (calls rule n log hashes image k)
 
 -- "stops at any byte, any number of times": the table; and, k calls after a start on such an image, what a stop inside
 -- the next leaves: each byte is that before the call or that after it
-pub data Cut (n : ℕ) (log hashes table : List ℕ) : List ℕ → Type 0 where
-  uncut : Cut n log hashes table table
-  cut-inside : (start image : List ℕ) (k : ℕ) → Cut n log hashes table start
-      → Mix (calls n log hashes start k .image) (calls n log hashes start (suc k) .image) image → Cut n log hashes table image
+pub data Cut (rule : AfterEnd) (n : ℕ) (log hashes table : List ℕ) : List ℕ → Type 0 where
+  uncut : Cut rule n log hashes table table
+  cut-inside : (start image : List ℕ) (k : ℕ) → Cut rule n log hashes table start
+      → Mix (calls rule n log hashes start k .image) (calls rule n log hashes start (suc k) .image) image → Cut rule n log hashes table image

@@ -1,4 +1,4 @@
--- 01, 'Replay' and its order, and 02, W-207: what replay answers, and the image it leaves. Assumes nothing.
+-- 01, 'Replay' and its order, and 02, W-207 and W-208: what replay answers, by what it wants after end, and the image it leaves. Assumes nothing.
 use mathlib.Core.Path.{_≡_}
 use mathlib.Core.Logic.{_⊎_}
 use mathlib.Core.Bool.{Bool, true, false, cond, _&&_}
@@ -11,7 +11,9 @@ use Rattle.answers.specs.Refusals.{numberOf}
 use Rattle.blocks.specs.Blocks.{sameBytes}
 use Rattle.ht_file.specs.Places.{imageFits, ifTable}
 use Rattle.wal.specs.Log.{Entry, clear, update}
-use Rattle.wal.specs.Reader.{editionAt, startOf, seedOf, Next, next, ended, stopped, nextAt, Reading, readLog}
+use Rattle.wal.specs.Reader.{editionAt, startOf, seedOf, Next, next, ended, stopped, nextBy, Reading, readLog}
+use Rattle.wal.specs.declared.AfterEnd.{AfterEnd}
+use Rattle.wal.specs.declared.AfterEnd.the-variants.{Tolerant}
 use Rattle.wal.specs.declared.Edition.{Edition}
 use Rattle.wal.specs.declared.Edition.the-variants.{One, Two}
 use Rattle.wal.specs.declared.Start.{Start}
@@ -43,7 +45,8 @@ unfoldable pub updatesIn : List Entry → ℕ
 updatesIn [] = 0
 updatesIn (e ∷ es) = oneUpdate e + updatesIn es
 
--- "the first bad entry (in an update: 6 up to the diff, 4, 6, 9), last the hash count 2"
+-- "the first bad entry (in an update: 6 up to the diff, 4, 6, 9), last the hash count 2"; "27 [..] after the entries and before the hash count": the
+-- reading stops with it
 abbrev pub afterEntries : Answer (Unit {0}) → Answer (Unit {0}) → Answer (Unit {0})
 afterEntries (given u) last = last
 afterEntries (refused n) last = refused n
@@ -55,8 +58,8 @@ hashesFit hashes updates = cond (eqb hashes updates) (given tt) (refused 2)
 abbrev pub checkOf : ℕ → ℕ → Reading → Answer (Unit {0})
 checkOf n hashes r = cond (allInside n (r .entries)) (afterEntries (r .stop) (hashesFit hashes (updatesIn (r .entries)))) (refused 9)
 
-unfoldable pub checkAnswer : ℕ → List ℕ → ℕ → Answer (Unit {0})
-checkAnswer n log hashes = checkOf n hashes (readLog log)
+unfoldable pub checkAnswer : AfterEnd → ℕ → List ℕ → ℕ → Answer (Unit {0})
+checkAnswer rule n log hashes = checkOf n hashes (readLog rule log)
 
 -- "Replay is lent the table's seed and refuses another store's log": a log of edition one names no store
 abbrev pub storeIn : Edition → List ℕ → List ℕ → Bool
@@ -77,16 +80,16 @@ afterStart (refused n) log want check = refused n
 afterStart (given s) log want check = cond (ofStore log (want .seed)) (bySync (eqb s (want .sync)) check) (refused 26)
 
 -- "Replay: 1, nothing, 5, 7, stale, then the first bad entry .., last the hash count 2": of the lengths of the image and of the hashes
-unfoldable pub replayTests : ℕ → ℕ → List ℕ → Expected → ℕ → Answer Did
-replayTests n image log want hashes =
-    ifTable (imageFits n image) (cond (eqb (length log) 0) (given nothing) (afterStart (startOf log) log want (checkAnswer n log hashes)))
+unfoldable pub replayTests : AfterEnd → ℕ → ℕ → List ℕ → Expected → ℕ → Answer Did
+replayTests rule n image log want hashes =
+    ifTable (imageFits n image) (cond (eqb (length log) 0) (given nothing) (afterStart (startOf log) log want (checkAnswer rule n log hashes)))
 
-abbrev pub replayAnswer : ℕ → List ℕ → List ℕ → Expected → List ℕ → Answer Did
-replayAnswer n image log want hashes = replayTests n (length image) log want (length hashes)
+abbrev pub replayAnswer : AfterEnd → ℕ → List ℕ → List ℕ → Expected → List ℕ → Answer Did
+replayAnswer rule n image log want hashes = replayTests rule n (length image) log want (length hashes)
 
--- the entries of a log with their hashes
+-- the entries of a log with their hashes; what follows end changes none of them
 abbrev pub stepsOf : List ℕ → List ℕ → List Step
-stepsOf log hashes = withHashes (readLog log .entries) hashes
+stepsOf log hashes = withHashes (readLog Tolerant log .entries) hashes
 
 -- only `applied` changes the image
 abbrev pub imageBy : Answer Did → List ℕ → List ℕ → List ℕ
@@ -95,8 +98,8 @@ imageBy (given stale) image after = image
 imageBy (given applied) image after = after
 imageBy (refused n) image after = image
 
-abbrev pub replayImage : ℕ → List ℕ → List ℕ → Expected → List ℕ → List ℕ
-replayImage n image log want hashes = imageBy (replayAnswer n image log want hashes) image (replayed n (stepsOf log hashes) image)
+abbrev pub replayImage : AfterEnd → ℕ → List ℕ → List ℕ → Expected → List ℕ → List ℕ
+replayImage rule n image log want hashes = imageBy (replayAnswer rule n image log want hashes) image (replayed n (stepsOf log hashes) image)
 
 -- ---- one entry: "each entry is applied by one step"
 pub data Went : Type 0 where
@@ -112,9 +115,9 @@ byNext n (next e p) = cond (ltb (bucketOf e) n) (given (wentTo e p)) (refused 9)
 byNext n ended = given atEnd
 byNext n (stopped k) = refused k
 
--- the step at a position: 1, then as in replay
-unfoldable pub stepAnswer : ℕ → List ℕ → Edition → List ℕ → ℕ → Answer Went
-stepAnswer n image ed log at = ifTable (imageFits n (length image)) (byNext n (nextAt ed log at))
+-- the step at a position: 1, then as in replay; 27 in place of end
+unfoldable pub stepAnswer : AfterEnd → ℕ → List ℕ → Edition → List ℕ → ℕ → Answer Went
+stepAnswer rule n image ed log at = ifTable (imageFits n (length image)) (byNext n (nextBy rule ed log at))
 
 abbrev pub stepBy : ℕ → Next → ℕ → List ℕ → List ℕ
 stepBy n (next e p) h image = stepped n (record { entry = e; hash = h }) image
@@ -122,8 +125,8 @@ stepBy n ended h image = image
 stepBy n (stopped k) h image = image
 
 -- the image after it: a refusal leaves it
-unfoldable pub stepImage : ℕ → List ℕ → Edition → List ℕ → ℕ → ℕ → List ℕ
-stepImage n image ed log at h = cond (accepted (stepAnswer n image ed log at)) (stepBy n (nextAt ed log at) h image) image
+unfoldable pub stepImage : AfterEnd → ℕ → List ℕ → Edition → List ℕ → ℕ → ℕ → List ℕ
+stepImage rule n image ed log at h = cond (accepted (stepAnswer rule n image ed log at)) (stepBy n (nextBy rule ed log at) h image) image
 
 -- what each case of the code's answers says
 abbrev pub steppedSaid : Stepped → Answer Went

@@ -14,6 +14,7 @@ ghost use Rattle.page_diff.specs.Diff.{reserved, countOf};
 ghost use Rattle.page_diff.specs.Pack.{unpackedByte};
 ghost use Rattle.wal.specs.Log.{updateBody};
 ghost use Rattle.wal.specs.Reader.{diffAt, nodesFrom};
+ghost use Rattle.wal.specs.declared.AfterEnd.the-variants.{Zeros, Tolerant};
 ghost use Rattle.wal_read.specs.Head.{headSaid};
 ghost use Rattle.recover.specs.Places.{replayed};
 ghost use Rattle.recover.specs.Replay.{ofStore, checkAnswer, afterStart, stepAnswer, stepImage, replayTests, replayAnswer, replayImage, stepsOf, steppedSaid, recoveredSaid};
@@ -25,6 +26,7 @@ use answers::Refusal;
 use ht_file::PAGE_SIZE;
 use meta_map::TOMBSTONE;
 use page_diff::Diff;
+use wal::AfterEnd;
 use wal::Edition;
 use wal_read::Head;
 
@@ -50,15 +52,16 @@ pub enum Stepped {
     Refused(Refusal),
 }
 
-// Whether a whole log, after its start, can be applied to a table of n buckets with so many hashes.
-pub fn check_log(log: &[u8], n: usize, hashes: usize) -> Outcome
-    ensures { λ r. ⌜ outcomeSaid r ≡ checkAnswer n (now (log .entry)) hashes ⌝ }
+// Whether a whole log, after its start, can be applied to a table of n buckets with so many hashes, by what is wanted
+// after end, which is looked at once.
+fn check_log(log: &[u8], n: usize, hashes: usize, rule: AfterEnd) -> Outcome
+    ensures { λ r. ⌜ outcomeSaid r ≡ checkAnswer rule n (now (log .entry)) hashes ⌝ }
 {
     let edition = wal_read::edition_of(log);
     let mut at = wal::start_size(edition);
     let mut updates: usize = 0;
     loop {
-        let head = wal_read::head_at(log, at, edition);
+        let head = wal_read::head_by(log, at, edition, rule);
         if let Head::Clear { bucket, next } = head {
             if n as u64 <= bucket {
                 return Outcome::Refused(Refusal::BucketOutside);
@@ -167,11 +170,12 @@ fn apply_at(
     edition: Edition,
     at: usize,
     hash: u64,
+    rule: AfterEnd,
 ) -> Stepped
     requires { ⌜ imageFits n (length (now image)) ≡ true ⌝ }
-    ensures { λ r. ⌜ (steppedSaid r ≡ stepAnswer n (now (image .entry)) edition (now (log .entry)) at) × (now (image .exit) ≡ stepImage n (now (image .entry)) edition (now (log .entry)) at hash) ⌝ }
+    ensures { λ r. ⌜ (steppedSaid r ≡ stepAnswer rule n (now (image .entry)) edition (now (log .entry)) at) × (now (image .exit) ≡ stepImage rule n (now (image .entry)) edition (now (log .entry)) at hash) ⌝ }
 {
-    let head = wal_read::head_at(log, at, edition);
+    let head = wal_read::head_by(log, at, edition, rule);
     if let Head::Clear { bucket, next } = head {
         if n as u64 <= bucket {
             return Stepped::Refused(Refusal::BucketOutside);
@@ -201,7 +205,27 @@ fn apply_at(
 }
 
 // Applies the entry at a position of a log of an edition to the image: a clear writes its bucket's tag, an update its
-// tag, its marked slots and its last 40 bytes. Every other byte stays, and a refusal leaves all.
+// tag, its marked slots and its last 40 bytes. Every other byte stays, and a refusal leaves all. By what is wanted
+// after end: 27 in place of end.
+pub fn apply_by(
+    image: &mut [u8],
+    n: usize,
+    log: &[u8],
+    edition: Edition,
+    at: usize,
+    hash: u64,
+    rule: AfterEnd,
+) -> Stepped
+    ensures { λ r. ⌜ (steppedSaid r ≡ stepAnswer rule n (now (image .entry)) edition (now (log .entry)) at) × (now (image .exit) ≡ stepImage rule n (now (image .entry)) edition (now (log .entry)) at hash) ⌝ }
+{
+    let fit = ht_file::check_image(n, image.len());
+    if let Outcome::Refused(why) = fit {
+        return Stepped::Refused(why);
+    }
+    apply_at(image, n, log, edition, at, hash, rule)
+}
+
+// The step; zeros are wanted after end.
 pub fn apply_entry(
     image: &mut [u8],
     n: usize,
@@ -210,13 +234,23 @@ pub fn apply_entry(
     at: usize,
     hash: u64,
 ) -> Stepped
-    ensures { λ r. ⌜ (steppedSaid r ≡ stepAnswer n (now (image .entry)) edition (now (log .entry)) at) × (now (image .exit) ≡ stepImage n (now (image .entry)) edition (now (log .entry)) at hash) ⌝ }
+    ensures { λ r. ⌜ (steppedSaid r ≡ stepAnswer Zeros n (now (image .entry)) edition (now (log .entry)) at) × (now (image .exit) ≡ stepImage Zeros n (now (image .entry)) edition (now (log .entry)) at hash) ⌝ }
 {
-    let fit = ht_file::check_image(n, image.len());
-    if let Outcome::Refused(why) = fit {
-        return Stepped::Refused(why);
-    }
-    apply_at(image, n, log, edition, at, hash)
+    apply_by(image, n, log, edition, at, hash, AfterEnd::Zeros)
+}
+
+// The step, whatever follows end.
+pub fn apply_entry_tolerant(
+    image: &mut [u8],
+    n: usize,
+    log: &[u8],
+    edition: Edition,
+    at: usize,
+    hash: u64,
+) -> Stepped
+    ensures { λ r. ⌜ (steppedSaid r ≡ stepAnswer Tolerant n (now (image .entry)) edition (now (log .entry)) at) × (now (image .exit) ≡ stepImage Tolerant n (now (image .entry)) edition (now (log .entry)) at hash) ⌝ }
+{
+    apply_by(image, n, log, edition, at, hash, AfterEnd::Tolerant)
 }
 
 // The step where the reading stops: the refusal there, or the end.
@@ -229,9 +263,9 @@ fn stopped_step(head: Head) -> Stepped
     Stepped::End
 }
 
-// Applies every entry of a log that was checked for this table.
+// Applies every entry of a log that was checked for this table; what follows its end was looked at then.
 fn run(image: &mut [u8], n: usize, log: &[u8], hashes: &[u64])
-    requires { ⌜ (imageFits n (length (now image)) ≡ true) × (checkAnswer n (now log) (length (now hashes)) ≡ given tt) ⌝ }
+    requires { ⌜ (imageFits n (length (now image)) ≡ true) × (checkAnswer Tolerant n (now log) (length (now hashes)) ≡ given tt) ⌝ }
     ensures { λ _. ⌜ now (image .exit) ≡ replayed n (stepsOf (now (log .entry)) (now (hashes .entry))) (now (image .entry)) ⌝ }
 {
     let edition = wal_read::edition_of(log);
@@ -239,7 +273,7 @@ fn run(image: &mut [u8], n: usize, log: &[u8], hashes: &[u64])
     let mut used: usize = 0;
     loop {
         let hash = hash_at(hashes, used);
-        let step = apply_at(image, n, log, edition, at, hash);
+        let step = apply_at(image, n, log, edition, at, hash, AfterEnd::Tolerant);
         if let Stepped::Cleared(next) = step {
             at = next;
         } else {
@@ -273,9 +307,16 @@ fn of_store(log: &[u8], seed: [u8; 16]) -> bool
     }
 }
 
-// What replay answers once the start is read: 26, stale, the first bad entry, the hash count.
-fn check_started(log: &[u8], n: usize, found: u64, want: Expected, hashes: usize) -> Recovered
-    ensures { λ r. ⌜ recoveredSaid r ≡ afterStart (given found) (now (log .entry)) want (checkAnswer n (now (log .entry)) hashes) ⌝ }
+// What replay answers once the start is read: 26, stale, the first bad entry, 27, the hash count.
+fn check_started(
+    log: &[u8],
+    n: usize,
+    found: u64,
+    want: Expected,
+    hashes: usize,
+    rule: AfterEnd,
+) -> Recovered
+    ensures { λ r. ⌜ recoveredSaid r ≡ afterStart (given found) (now (log .entry)) want (checkAnswer rule n (now (log .entry)) hashes) ⌝ }
 {
     let seed = want.seed;
     if !of_store(log, seed) {
@@ -284,23 +325,24 @@ fn check_started(log: &[u8], n: usize, found: u64, want: Expected, hashes: usize
     if found != want.sync as u64 {
         return Recovered::Stale;
     }
-    let checked = check_log(log, n, hashes);
+    let checked = check_log(log, n, hashes, rule);
     match checked {
         Outcome::Done => Recovered::Applied,
         Outcome::Refused(why) => Recovered::Refused(why),
     }
 }
 
-// What replay answers, told before a byte is written: 1, nothing, 5, 7, 26, stale, the first bad entry, the hash
-// count. It looks at the lengths of the image and of the hashes alone.
-pub fn check_replay(
+// What replay answers, told before a byte is written: 1, nothing, 5, 7, 26, stale, the first bad entry, 27 by what is
+// wanted after end, the hash count. It looks at the lengths of the image and of the hashes alone.
+pub fn check_by(
     image_len: usize,
     n: usize,
     log: &[u8],
     want: Expected,
     hashes: usize,
+    rule: AfterEnd,
 ) -> Recovered
-    ensures { λ r. ⌜ recoveredSaid r ≡ replayTests n «image_len» (now (log .entry)) want hashes ⌝ }
+    ensures { λ r. ⌜ recoveredSaid r ≡ replayTests rule n «image_len» (now (log .entry)) want hashes ⌝ }
 {
     let fit = ht_file::check_image(n, image_len);
     if let Outcome::Refused(why) = fit {
@@ -311,20 +353,73 @@ pub fn check_replay(
     }
     let start = wal_read::set(log);
     match start {
-        Number::Is(found) => check_started(log, n, found, want, hashes),
+        Number::Is(found) => check_started(log, n, found, want, hashes, rule),
         Number::Refused(why) => Recovered::Refused(why),
     }
 }
 
-// Replay: applies a log to the image of a table of n buckets, where the log is of the table's store and of the expected
-// sync and can be applied whole; otherwise the image stays as it is.
-pub fn recover(image: &mut [u8], n: usize, log: &[u8], want: Expected, hashes: &[u64]) -> Recovered
-    ensures { λ r. ⌜ (recoveredSaid r ≡ replayAnswer n (now (image .entry)) (now (log .entry)) want (now (hashes .entry))) × (now (image .exit) ≡ replayImage n (now (image .entry)) (now (log .entry)) want (now (hashes .entry))) ⌝ }
+// The same, with zeros wanted after end.
+pub fn check_replay(
+    image_len: usize,
+    n: usize,
+    log: &[u8],
+    want: Expected,
+    hashes: usize,
+) -> Recovered
+    ensures { λ r. ⌜ recoveredSaid r ≡ replayTests Zeros n «image_len» (now (log .entry)) want hashes ⌝ }
 {
-    let answer = check_replay(image.len(), n, log, want, hashes.len());
+    check_by(image_len, n, log, want, hashes, AfterEnd::Zeros)
+}
+
+// The same, whatever follows end.
+pub fn check_replay_tolerant(
+    image_len: usize,
+    n: usize,
+    log: &[u8],
+    want: Expected,
+    hashes: usize,
+) -> Recovered
+    ensures { λ r. ⌜ recoveredSaid r ≡ replayTests Tolerant n «image_len» (now (log .entry)) want hashes ⌝ }
+{
+    check_by(image_len, n, log, want, hashes, AfterEnd::Tolerant)
+}
+
+// Replay: applies a log to the image of a table of n buckets, where the log is of the table's store and of the expected
+// sync, can be applied whole, and ends as is wanted; otherwise the image stays as it is.
+pub fn recover_by(
+    image: &mut [u8],
+    n: usize,
+    log: &[u8],
+    want: Expected,
+    hashes: &[u64],
+    rule: AfterEnd,
+) -> Recovered
+    ensures { λ r. ⌜ (recoveredSaid r ≡ replayAnswer rule n (now (image .entry)) (now (log .entry)) want (now (hashes .entry))) × (now (image .exit) ≡ replayImage rule n (now (image .entry)) (now (log .entry)) want (now (hashes .entry))) ⌝ }
+{
+    let answer = check_by(image.len(), n, log, want, hashes.len(), rule);
     let Recovered::Applied = answer else {
         return answer;
     };
     run(image, n, log, hashes);
     answer
+}
+
+// Replay; zeros are wanted after end.
+pub fn recover(image: &mut [u8], n: usize, log: &[u8], want: Expected, hashes: &[u64]) -> Recovered
+    ensures { λ r. ⌜ (recoveredSaid r ≡ replayAnswer Zeros n (now (image .entry)) (now (log .entry)) want (now (hashes .entry))) × (now (image .exit) ≡ replayImage Zeros n (now (image .entry)) (now (log .entry)) want (now (hashes .entry))) ⌝ }
+{
+    recover_by(image, n, log, want, hashes, AfterEnd::Zeros)
+}
+
+// Replay, whatever follows end.
+pub fn recover_tolerant(
+    image: &mut [u8],
+    n: usize,
+    log: &[u8],
+    want: Expected,
+    hashes: &[u64],
+) -> Recovered
+    ensures { λ r. ⌜ (recoveredSaid r ≡ replayAnswer Tolerant n (now (image .entry)) (now (log .entry)) want (now (hashes .entry))) × (now (image .exit) ≡ replayImage Tolerant n (now (image .entry)) (now (log .entry)) want (now (hashes .entry))) ⌝ }
+{
+    recover_by(image, n, log, want, hashes, AfterEnd::Tolerant)
 }

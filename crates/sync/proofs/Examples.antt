@@ -7,14 +7,15 @@ use native.Mathlib.Omega.{arith}
 use lib.ListN.{replicate}
 use Rattle.answers.specs.Answers.{Answer, given, refused}
 use Rattle.answers.specs.declared.Refusal.the-variants.{LengthUnfit, BucketOutside, BucketUnfit, NoRoom}
-use Rattle.blocks.specs.Blocks.{block, put, flat}
+use Rattle.blocks.specs.Blocks.{block, put, flat, allZero}
 use Rattle.meta_map.specs.Tags.{countOf}
 use Rattle.page_diff.specs.Diff.{marked, slotsBelow}
 use Rattle.probe.specs.Path.{allocating, hitLimit}
 use Rattle.wal.specs.Log.{Entry, clear, update, editionOne, editionTwo, recordOf, recordsOf}
-use Rattle.wal.specs.Reader.{startIn, next, nextAt, readBy}
+use Rattle.wal.specs.Reader.{startIn, next, nextAt, nextBy, readBy}
 use Rattle.wal.specs.Run.{logOf}
 use Rattle.wal.specs.Writer.{openAt, beginAnswer, finishAnswer}
+use Rattle.wal.specs.declared.AfterEnd.the-variants.{Zeros}
 use Rattle.wal.specs.declared.Edition.the-variants.{One}
 use Rattle.wal.proofs.Examples.{seed}
 use Rattle.wal.specs.declared.Writer.the-variants.{Fresh, Finished}
@@ -185,22 +186,22 @@ update0 = update (replicate 32 1) (1 ∷ 0 ∷ []) (replicate 32 5 ∷ []) (repl
 abbrev labelLog : List ℕ
 labelLog = logOf (editionOne 7) (clear 0 ∷ update0 ∷ [])
 
-accepted : replayAnswer 1 (replicate 8192 0) labelLog (record { sync = 7; seed = replicate 16 0 }) (0 ∷ []) ≡ given applied
-unfolding replayTests startIn checkAnswer allInside updatesIn readBy nextAt block marked slotsBelow recordsOf recordOf flat
+accepted : replayAnswer Zeros 1 (replicate 8192 0) labelLog (record { sync = 7; seed = replicate 16 0 }) (0 ∷ []) ≡ given applied
+unfolding replayTests startIn checkAnswer allInside updatesIn readBy nextAt block marked slotsBelow recordsOf recordOf flat allZero
 accepted = refl
 
 its-steps : stepsOf labelLog (0 ∷ []) ≡ record { entry = clear 0; hash = 0 } ∷ record { entry = update0; hash = 0 } ∷ []
 unfolding withHashes readBy nextAt block marked slotsBelow recordsOf recordOf flat
 its-steps = refl
 
-its-second : nextAt One labelLog 14 ≡ next update0 111
-unfolding nextAt block marked slotsBelow recordsOf recordOf flat
+its-second : nextBy Zeros One labelLog 14 ≡ next update0 111
+unfolding nextAt block marked slotsBelow recordsOf recordOf flat allZero
 its-second = refl
 
-pub labels : Labelled 1 (replayImage 1 (replicate 8192 0) labelLog (record { sync = 7; seed = replicate 16 0 }) (0 ∷ [])) 0 0 (replicate 32 1) (replicate 8 2)
-    × Labelled 1 (stepImage 1 (replicate 8192 0) One labelLog 14 0) 0 0 (replicate 32 1) (replicate 8 2)
+pub labels : Labelled 1 (replayImage Zeros 1 (replicate 8192 0) labelLog (record { sync = 7; seed = replicate 16 0 }) (0 ∷ [])) 0 0 (replicate 32 1) (replicate 8 2)
+    × Labelled 1 (stepImage Zeros 1 (replicate 8192 0) One labelLog 14 0) 0 0 (replicate 32 1) (replicate 8 2)
 unfolding elsewhere
 labels = (
-  replay-labelled 1 (replicate 8192 0) labelLog (record { sync = 7; seed = replicate 16 0 }) (0 ∷ []) accepted (record { entry = clear 0; hash = 0 } ∷ []) [] (replicate 32 1) (1 ∷ 0 ∷ []) (replicate 32 5 ∷ []) (replicate 8 2) 0 0 its-steps refl refl refl,
-  step-labelled 1 (replicate 8192 0) One labelLog 14 0 (replicate 32 1) (1 ∷ 0 ∷ []) (replicate 32 5 ∷ []) (replicate 8 2) 0 111 refl its-second (omega arith) refl refl,
+  replay-labelled Zeros 1 (replicate 8192 0) labelLog (record { sync = 7; seed = replicate 16 0 }) (0 ∷ []) accepted (record { entry = clear 0; hash = 0 } ∷ []) [] (replicate 32 1) (1 ∷ 0 ∷ []) (replicate 32 5 ∷ []) (replicate 8 2) 0 0 its-steps refl refl refl,
+  step-labelled Zeros 1 (replicate 8192 0) One labelLog 14 0 (replicate 32 1) (1 ∷ 0 ∷ []) (replicate 32 5 ∷ []) (replicate 8 2) 0 111 refl its-second (omega arith) refl refl,
 )

@@ -24,9 +24,12 @@ use Rattle.page_diff.specs.Diff.{marked, slots}
 use Rattle.page_diff.specs.Pack.{nodeAt, rank}
 use Rattle.probe.specs.Path.{pageEnd, holds}
 use Rattle.probe.proofs.Promises.{page-holds}
+use Rattle.wal.specs.declared.AfterEnd.{AfterEnd}
+use Rattle.wal.specs.declared.AfterEnd.the-variants.{Tolerant}
 use Rattle.wal.specs.declared.Edition.{Edition}
+use Rattle.wal.proofs.Endings.{same-entries}
 use Rattle.wal.specs.Log.{Entry, clear, update}
-use Rattle.wal.specs.Reader.{next, nextAt, readLog}
+use Rattle.wal.specs.Reader.{next, nextBy, readLog}
 use Rattle.wal_write.specs.Calls.{pageUpdate}
 use Rattle.recover.specs.Places.{Step, withHashes, inPage, pageNamed, entryNames, pageGives, entryGives, namedIn, replayed, stepped}
 use Rattle.recover.specs.Replay.{bucketOf, allInside, checkAnswer, afterEntries, applied, replayAnswer, replayImage, stepsOf, stepImage, updatesIn}
@@ -118,17 +121,17 @@ module _ (n b h : ℕ) (id ws : List ℕ) (ns : List (List ℕ)) (el : List ℕ)
         (λ o l q. stepped-byte (pageStart n b + o) (pageGives id ws ns el o) (omega (arith, long)) (label-given o l q))
 
 -- ---- one step of replay: what `apply_entry` leaves where an update of a bucket inside the table stands at its position
-pub step-labelled : (n : ℕ) (image : List ℕ) (ed : Edition) (log : List ℕ) (at h : ℕ) (id ws : List ℕ) (ns : List (List ℕ)) (el : List ℕ) (b p : ℕ) → imageFits n (length image) ≡ true → nextAt ed log at ≡ next (update id ws ns el b) p
-    → b < n → length id ≡ 32 → length el ≡ 8 → Labelled n (stepImage n image ed log at h) b h id el
-step-labelled n image ed log at h id ws ns el b p fits here inside id-long el-long =
-    subst (λ (l : List ℕ). Labelled n l b h id el) (step-taken n image ed log at h fits (update id ws ns el b) p here inside .1)
+pub step-labelled : (rule : AfterEnd) (n : ℕ) (image : List ℕ) (ed : Edition) (log : List ℕ) (at h : ℕ) (id ws : List ℕ) (ns : List (List ℕ)) (el : List ℕ) (b p : ℕ) → imageFits n (length image) ≡ true → nextBy rule ed log at ≡ next (update id ws ns el b) p
+    → b < n → length id ≡ 32 → length el ≡ 8 → Labelled n (stepImage rule n image ed log at h) b h id el
+step-labelled rule n image ed log at h id ws ns el b p fits here inside id-long el-long =
+    subst (λ (l : List ℕ). Labelled n l b h id el) (step-taken rule n image ed log at h fits (update id ws ns el b) p here inside .1)
     (stepped-labelled n b h id ws ns el inside image (image-fits-facts n (length image) fits .2) id-long el-long)
 
 -- and where it is the update that a sync logs of a page: the elided children stand where they stood in that page
-pub logged-labelled : (n : ℕ) (image : List ℕ) (ed : Edition) (log : List ℕ) (at h : ℕ) (id ws page : List ℕ) (b p : ℕ) → imageFits n (length image) ≡ true → nextAt ed log at ≡ next (pageUpdate id ws page b) p
-    → b < n → length id ≡ 32 → Labelled n (stepImage n image ed log at h) b h id (block 8 page 4056)
-logged-labelled n image ed log at h id ws page b p fits here inside id-long =
-    step-labelled n image ed log at h id ws (map (nodeAt page) (slots ws)) (block 8 page 4056) b p fits here inside id-long (block-length 8 page 4056)
+pub logged-labelled : (rule : AfterEnd) (n : ℕ) (image : List ℕ) (ed : Edition) (log : List ℕ) (at h : ℕ) (id ws page : List ℕ) (b p : ℕ) → imageFits n (length image) ≡ true → nextBy rule ed log at ≡ next (pageUpdate id ws page b) p
+    → b < n → length id ≡ 32 → Labelled n (stepImage rule n image ed log at h) b h id (block 8 page 4056)
+logged-labelled rule n image ed log at h id ws page b p fits here inside id-long =
+    step-labelled rule n image ed log at h id ws (map (nodeAt page) (slots ws)) (block 8 page 4056) b p fits here inside id-long (block-length 8 page 4056)
 
 -- ---- a whole replay
 -- no entry is of bucket b
@@ -186,34 +189,34 @@ module _ (n b : ℕ) (inside : b < n) where
       ap₂ _||_ (other-entry (s .entry) j (ltb-true (bucketOf (s .entry)) n (x .0)) (eqb-false (bucketOf (s .entry)) b (not-true (eqb (bucketOf (s .entry)) b) (y .0))) o) (unnamed ss (x .1) (y .1) j o)
 
 -- the check of an accepted log has found its buckets inside the table
-check-inside : (n : ℕ) (log : List ℕ) (hashes : ℕ) → checkAnswer n log hashes ≡ given tt → allInside n (readLog log .entries) ≡ true
+check-inside : (rule : AfterEnd) (n : ℕ) (log : List ℕ) (hashes : ℕ) → checkAnswer rule n log hashes ≡ given tt → allInside n (readLog rule log .entries) ≡ true
 unfolding checkAnswer
-check-inside n log hashes e = go (allInside n (readLog log .entries)) refl e
+check-inside rule n log hashes e = go (allInside n (readLog rule log .entries)) refl e
   where
-    go : (t : Bool) → allInside n (readLog log .entries) ≡ t → cond t (afterEntries (readLog log .stop) (cond (eqb hashes (updatesIn (readLog log .entries))) (given tt) (refused 2))) (refused 9) ≡ given tt
-        → allInside n (readLog log .entries) ≡ true
+    go : (t : Bool) → allInside n (readLog rule log .entries) ≡ t → cond t (afterEntries (readLog rule log .stop) (cond (eqb hashes (updatesIn (readLog rule log .entries))) (given tt) (refused 2))) (refused 9) ≡ given tt
+        → allInside n (readLog rule log .entries) ≡ true
     go true p q = p
     go false p q = absurd (given-refused tt 9 (sym q))
 
 -- what `recover` leaves where it answers applied: the label of the last update of a bucket that no later entry is of
-pub replay-labelled : (n : ℕ) (table log : List ℕ) (want : Expected) (hashes : List ℕ) → replayAnswer n table log want hashes ≡ given applied
+pub replay-labelled : (rule : AfterEnd) (n : ℕ) (table log : List ℕ) (want : Expected) (hashes : List ℕ) → replayAnswer rule n table log want hashes ≡ given applied
     → (before after : List Step) (id ws : List ℕ) (ns : List (List ℕ)) (el : List ℕ) (b h : ℕ) → stepsOf log hashes ≡ before ++ (record { entry = update id ws ns el b; hash = h } ∷ after)
-    → elsewhere b after ≡ true → length id ≡ 32 → length el ≡ 8 → Labelled n (replayImage n table log want hashes) b h id el
+    → elsewhere b after ≡ true → length id ≡ 32 → length el ≡ 8 → Labelled n (replayImage rule n table log want hashes) b h id el
 unfolding insideAll
-replay-labelled n table log want hashes ok before after id ws ns el b h split away id-long el-long =
+replay-labelled rule n table log want hashes ok before after id ws ns el b h split away id-long el-long =
     let s : Step = record { entry = update id ws ns el b; hash = h } in
-    let told = applied-told n (length table) log want (length hashes) ok in
+    let told = applied-told rule n (length table) log want (length hashes) ok in
     let long : length table ≡ imageLength n = image-fits-facts n (length table) (told .0) .2 in
     let all-in : insideAll n (s ∷ after) ≡ true =
-    inside-from n before (s ∷ after) (ap (insideAll n) (sym split) ∙ steps-inside n (readLog log .entries) hashes (check-inside n log (length hashes) (told .1))) in
+    inside-from n before (s ∷ after) (ap (insideAll n) (sym split) ∙ steps-inside n (readLog Tolerant log .entries) hashes (sym (ap (allInside n) (same-entries rule log)) ∙ check-inside rule n log (length hashes) (told .1))) in
     let here = both-hold (ltb b n) (insideAll n after) all-in in
     let inside : b < n = ltb-true b n (here .0) in
     let first : List ℕ = replayed n before table in
     let first-long : length first ≡ imageLength n = replayed-length n before table ∙ long in
     let then : List ℕ = stepped n s first in
     let then-long : length then ≡ imageLength n = stepped-length n s first ∙ first-long in
-    let image-is : replayImage n table log want hashes ≡ replayed n after then =
-    applied-image n table log want hashes ok ∙ ap (λ (ss : List Step). replayed n ss table) split ∙ replayed-append n before (s ∷ after) table ∙ replayed-step n s after first in
+    let image-is : replayImage rule n table log want hashes ≡ replayed n after then =
+    applied-image rule n table log want hashes ok ∙ ap (λ (ss : List Step). replayed n ss table) split ∙ replayed-append n before (s ∷ after) table ∙ replayed-step n s after first in
     let byte : (j v : ℕ) → j < length then → OfBucket n b inside j → getD then j 0 ≡ v → getD (replayed n after then) j 0 ≡ v =
     λ j v q o e. replayed-other n after then j q (unnamed n b inside after (here .1) away j o) ∙ e in
     subst (λ (i : List ℕ). Labelled n i b h id el) (sym image-is)

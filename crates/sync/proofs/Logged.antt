@@ -27,6 +27,7 @@ use Rattle.wal.proofs.Writer as WriterT
 use Rattle.wal.proofs.RoundTrip.{run-made, finish-fits, round-trip-start, round-trip}
 use Rattle.wal_write.specs.Calls.{roomIn, clearWriter, pageUpdate, pageUpdateWriter}
 use Rattle.wal_write.proofs.PageUpdates.{run-page}
+use Rattle.wal.specs.declared.AfterEnd.{AfterEnd}
 use Rattle.wal.specs.declared.Start.{Start}
 use Rattle.sync.specs.Change.{Wide, AllWide, none-wide, more-wide, Mem, memOf, doesOf, Effect, cleared, updated, allocated, effectOf, entryBy, memBy, stateBy}
 use Rattle.sync.specs.Sync.{pageOf, Came, through, refusedAt, orRest, orMem, changeAt, changeMem, allOf, memAll, entriesBy, entriesOf, beforeChanges, startMem, startState, saidDone, saidFinish, saidBy, saidIf, keptIf, logAfter, came, left, syncSays, syncMem}
@@ -177,6 +178,6 @@ module _ (n : ℕ) (m : Mem) (pages : List ℕ) (cs : List Change) (start : Star
   done-start =
       ap₂ (λ (k : ℕ) (x : List ℕ). startOf (take k x)) done-length done-log ∙ round-trip-start (m .log) start (end .writer) (last .log) entries done-run
 
-  pub done-back : readLog (take len (syncMem n m pages cs start .log)) ≡ record { entries = entries; at = endOf start entries; stop = given tt }
-  done-back =
-      ap₂ (λ (k : ℕ) (x : List ℕ). readLog (take k x)) done-length done-log ∙ round-trip (m .log) start (end .writer) (last .log) entries done-run
+  pub done-back : (rule : AfterEnd) → readLog rule (take len (syncMem n m pages cs start .log)) ≡ record { entries = entries; at = endOf start entries; stop = given tt }
+  done-back rule =
+      ap₂ (λ (k : ℕ) (x : List ℕ). readLog rule (take k x)) done-length done-log ∙ round-trip (m .log) start (end .writer) (last .log) entries done-run rule

@@ -12,6 +12,7 @@ use Rattle.answers.specs.declared.Refusal.{Refusal}
 use Rattle.ht_file.specs.Places.{imageFits}
 use Rattle.meta_map.specs.Tags.{full, countOf}
 use Rattle.page_diff.specs.Diff.{marked}
+use Rattle.wal.specs.declared.AfterEnd.{AfterEnd}
 use Rattle.wal.specs.declared.Start.{Start}
 use Rattle.wal.specs.Log.{Entry}
 use Rattle.wal.specs.Reader.{startOf, readLog}
@@ -122,12 +123,12 @@ module _ (s : SyncStart) (m : Mem) (pages : List ℕ) (cs : List Change) (r : Sy
     pub sync-occupied : o ≡ countOf full (after .tags) n
     sync-occupied = done-occupied n m pages cs start o len says ∙ ap (λ (x : Mem). countOf full (x .tags) n) (sym (p .memory))
 
-    -- "A finished log reads back as exactly the entries written"
+    -- "A finished log reads back as exactly the entries written", by a reader that wants zeros after end and by a tolerant one
     pub sync-reads-start : startOf (take len (after .log)) ≡ given (start .sync)
     sync-reads-start = ap startOf (sym same-log) ∙ done-start n m pages cs start o len (widths .0) (widths .1) says
 
-    pub sync-reads-back : readLog (take len (after .log)) ≡ record { entries = logged; at = endOf start logged; stop = given tt }
-    sync-reads-back = ap readLog (sym same-log) ∙ done-back n m pages cs start o len (widths .0) (widths .1) says
+    pub sync-reads-back : (rule : AfterEnd) → readLog rule (take len (after .log)) ≡ record { entries = logged; at = endOf start logged; stop = given tt }
+    sync-reads-back rule = ap (readLog rule) (sym same-log) ∙ done-back n m pages cs start o len (widths .0) (widths .1) says rule
 
     -- each tag outside the buckets of the logged entries is as before; each mark is 1 where a tag of its page was written, else 0
     pub sync-other-tags : (i : ℕ) → Misses i logged → getD (after .tags) i 0 ≡ getD (m .tags) i 0
@@ -159,7 +160,7 @@ module _ (s : SyncStart) (m : Mem) (pages : List ℕ) (cs : List Change) (r : Sy
 
     -- replay accepts the log on every image of the table's size, under the sync's own number (and, in edition two, seed) and with the hashes of its
     -- updates
-    pub sync-replays : (want : Expected) → Own start want → (table : List ℕ) → imageFits n (length table) ≡ true → replayAnswer n table (take len (after .log)) want (hashesOf cs) ≡ given applied
-    sync-replays want own table fits =
-        ap (λ (l : List ℕ). replayAnswer n table l want (hashesOf cs)) (sym same-log)
-        ∙ done-replays n m pages cs start o len (widths .0) says (widths .1) want own table (hashesOf cs) fits sync-hashes
+    pub sync-replays : (rule : AfterEnd) (want : Expected) → Own start want → (table : List ℕ) → imageFits n (length table) ≡ true → replayAnswer rule n table (take len (after .log)) want (hashesOf cs) ≡ given applied
+    sync-replays rule want own table fits =
+        ap (λ (l : List ℕ). replayAnswer rule n table l want (hashesOf cs)) (sym same-log)
+        ∙ done-replays rule n m pages cs start o len (widths .0) says (widths .1) want own table (hashesOf cs) fits sync-hashes

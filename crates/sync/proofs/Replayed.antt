@@ -14,6 +14,7 @@ use Rattle.recover.specs.Replay.{applied, allInside, updatesIn, replayAnswer, O
 use Rattle.recover.specs.declared.Expected.{Expected}
 use Rattle.recover.proofs.Acceptance.{finished-accepted}
 use Rattle.wal.specs.Run.{WideStart}
+use Rattle.wal.specs.declared.AfterEnd.{AfterEnd}
 use Rattle.wal.specs.declared.Start.{Start}
 use Rattle.sync.specs.Change.{AllWide, Mem, doesOf, Effect, cleared, updated, allocated, bucketOf, effectOf, memBy, stateBy}
 use Rattle.sync.specs.Sync.{pageOf, changeAt, changeMem, entriesBy, entriesOf, startMem, startState, saidDone, came, left, syncSays, syncMem}
@@ -51,10 +52,10 @@ all-inside pages (c ∷ cs) m j st = go (effectOf st m (pageOf pages j) c) refl 
         ap₂ _&&_ (ap (λ (b : ℕ). ltb b (st .n)) (entry-bucket c (pageOf pages j) e) ∙ lt-ltb (bucketOf e) (st .n) (bucket-inside st m (pageOf pages j) c e h))
         (rest (memBy (given e) st m (pageOf pages j) c) (j + 1) (stateBy (given e) st c))
 
-pub done-replays : (n : ℕ) (m : Mem) (pages : List ℕ) (cs : List Change) (start : Start) (o len : ℕ) (sized : AllWide cs) (h : syncSays n m pages cs start ≡ saidDone o len) → WideStart start
+pub done-replays : (rule : AfterEnd) (n : ℕ) (m : Mem) (pages : List ℕ) (cs : List Change) (start : Start) (o len : ℕ) (sized : AllWide cs) (h : syncSays n m pages cs start ≡ saidDone o len) → WideStart start
     → (want : Expected) → Own start want → (table hashes : List ℕ) → imageFits n (length table) ≡ true → length hashes ≡ updatesIn (entriesOf (startMem m start) pages cs 0 (startState n m start))
-    → replayAnswer n table (take len (syncMem n m pages cs start .log)) want hashes ≡ given applied
-done-replays n m pages cs start o len sized h small want own table hashes fits e =
-    ap₂ (λ (k : ℕ) (x : List ℕ). replayAnswer n table (take k x) want hashes) (done-length n m pages cs start o len sized small h) (done-log n m pages cs start o len sized small h)
-    ∙ finished-accepted (m .log) start (came n m pages cs start .state .writer) (left n m pages cs start .log) (entriesOf (startMem m start) pages cs 0 (startState n m start)) (done-run n m pages cs start o len sized small h) want own n table hashes
+    → replayAnswer rule n table (take len (syncMem n m pages cs start .log)) want hashes ≡ given applied
+done-replays rule n m pages cs start o len sized h small want own table hashes fits e =
+    ap₂ (λ (k : ℕ) (x : List ℕ). replayAnswer rule n table (take k x) want hashes) (done-length n m pages cs start o len sized small h) (done-log n m pages cs start o len sized small h)
+    ∙ finished-accepted rule (m .log) start (came n m pages cs start .state .writer) (left n m pages cs start .log) (entriesOf (startMem m start) pages cs 0 (startState n m start)) (done-run n m pages cs start o len sized small h) want own n table hashes
     (all-inside pages cs (startMem m start) 0 (startState n m start)) fits e

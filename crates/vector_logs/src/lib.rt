@@ -24,6 +24,7 @@ use vector_memory::said;
 use vector_memory::said6;
 use vector_memory::weighed;
 use vector_memory::word;
+use wal::AfterEnd;
 use wal::Edition;
 use wal::Writer;
 
@@ -80,10 +81,18 @@ fn carried(d: Diff, held: usize, from: &[u8], to: &mut [u8]) -> Words {
     one(of_outcome(page_diff::unpack_changed_nodes(d, page_diff::nodes_of(p), held, to)))
 }
 
+// What is wanted after end: zeros for 1, else nothing, as the original does.
+fn rule(x: u64) -> AfterEnd {
+    if x == 1 {
+        return AfterEnd::Zeros;
+    }
+    AfterEnd::Tolerant
+}
+
 // ---- 40 to 43: a log is read
 
-fn reader_next(log: &[u8], at: usize) -> Words {
-    let e = wal_read::entry_at(log, at, wal_read::edition_of(log));
+fn reader_next(log: &[u8], at: usize, after: AfterEnd) -> Words {
+    let e = wal_read::entry_by(log, at, wal_read::edition_of(log), after);
     let what = e.what;
     let d = e.diff;
     let next = e.next as u64;
@@ -97,7 +106,7 @@ fn reader_next(log: &[u8], at: usize) -> Words {
 
 // A word of an update's id (part 0), nodes (1) or elided children (2).
 fn update_part(log: &[u8], at: usize, which: u64, index: u64) -> Words {
-    let e = wal_read::entry_at(log, at, wal_read::edition_of(log));
+    let e = wal_read::entry_at_tolerant(log, at, wal_read::edition_of(log));
     if which == 0 {
         let id = e.id;
         return one(word_of(&id, index));
@@ -129,7 +138,7 @@ fn on_log(w: In, log: &[u8]) -> Words {
     let op = w.op;
     match op {
         40 => of_number(wal_read::set(log)),
-        41 => reader_next(log, at),
+        41 => reader_next(log, at, rule(w.c)),
         42 => update_part(log, at, w.c, w.d),
         _ => listed(log),
     }
@@ -358,12 +367,13 @@ fn on_nodes(w: In, page: &mut [u8], b: &[u8]) -> Words {
 
 fn replayed(w: In, image: &mut [u8], log: &[u8], hashes: &[u64]) -> Words {
     if w.op == 58 {
-        return of_recovered(recover::recover(
+        return of_recovered(recover::recover_by(
             image,
             w.a as usize,
             log,
             wanted(low_four(w.d)),
             hashes,
+            rule(w.f),
         ));
     }
     stopped(image, log, hashes)

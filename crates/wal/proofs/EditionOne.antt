@@ -14,6 +14,7 @@ use Rattle.page_diff.specs.Diff.{bytesOfWords, countOf, reserved}
 use Rattle.wal.specs.Log.{clear, update, editionOne, startRecord, startSize, recordOf, clearSize, updateSize, finishedLength, endRecord}
 use Rattle.wal.specs.Reader.{stopped, editionAt, startIn, startOf, byTag, nextAt, readLog, readAfterStart}
 use Rattle.wal.specs.Writer.{openAt, capacity, clearAnswer, updateAnswer, finishAnswer}
+use Rattle.wal.specs.declared.AfterEnd.{AfterEnd}
 use Rattle.wal.specs.declared.Edition.the-variants.{One, Two}
 
 -- "start = 1, sync number u32; clear = 3, bucket u64; update = 4, id 32, diff 16, the marked nodes, elided 8, bucket u64; end = 2, then zeros to a
@@ -53,10 +54,10 @@ unfolding clearAnswer updateAnswer finishAnswer
 same-room log pos ws held = (refl, refl, refl)
 
 -- a log that does not begin with 0xB2 is read as 01 reads it
-pub same-log : (log : List ℕ) → (getD log 0 0 ≡ 0xB2 → ⊥) → (startOf log ≡ startIn One log) × (readLog log ≡ readAfterStart One log)
+pub same-log : (log : List ℕ) → (getD log 0 0 ≡ 0xB2 → ⊥) → (startOf log ≡ startIn One log) × ((rule : AfterEnd) → readLog rule log ≡ readAfterStart rule One log)
 same-log log n =
     let one : editionAt log ≡ One = ap (λ (b : Bool). cond b Two One) (ne-eqb (getD log 0 0) 0xB2 n) in
-    (ap (λ ed. startIn ed log) one, ap (λ ed. readAfterStart ed log) one)
+    (ap (λ ed. startIn ed log) one, λ rule. ap (λ ed. readAfterStart rule ed log) one)
 
 -- "An edition one reader meets 0xB2 and answers 7, never entries": whatever the log holds, its pages whole
 some-byte : (log : List ℕ) → getD log 0 0 ≡ 0xB2 → length log ≡ 0 → ⊥

@@ -1,16 +1,17 @@
--- 01, 'Log', 'Reader' and 'Writer', and 02, W-207: the bytes and sizes of each record, what stands at a position, and what a writer
+-- 01, 'Log', 'Reader' and 'Writer', and 02, W-207 and W-208: the bytes and sizes of each record, what stands at a position, and what a writer
 -- answers, each refusal with its number, in literals. Assumes nothing.
 use mathlib.Core.Path.{_≡_, refl}
 use mathlib.Core.List.{List, [], _∷_, _++_, map}
 use Prim.Native.Nat.{ℕ, _^_}
-use lib.ListN.{length, take, replicate}
+use lib.ListN.{length, take, set, replicate}
 use Rattle.answers.specs.Answers.{given, refused}
-use Rattle.blocks.specs.Blocks.{block, put, flat}
+use Rattle.blocks.specs.Blocks.{block, put, flat, allZero}
 use Rattle.page_diff.specs.Diff.{marked, slotsBelow}
 use Rattle.wal.specs.Log.{Entry, clear, update, markSize, editionOne, editionTwo, startRecord, startSize, recordOf, clearSize, updateSize, recordsOf, finishedLength, endRecord}
-use Rattle.wal.specs.Reader.{editionAt, startIn, startOf, seedOf, next, ended, stopped, nextAt, Reading, readBy, readLog}
+use Rattle.wal.specs.Reader.{editionAt, startIn, startOf, seedOf, next, ended, stopped, nextAt, nextBy, Reading, readBy, readLog}
 use Rattle.wal.specs.Writer.{openAt, beginAnswer, beginLog, beginWriter, clearAnswer, updateAnswer, recordLog, recordWriter, finishAnswer, finishLog, finishWriter}
 use Rattle.wal.specs.Run.{logOf}
+use Rattle.wal.specs.declared.AfterEnd.the-variants.{Zeros, Tolerant}
 use Rattle.wal.specs.declared.Edition.the-variants.{One, Two}
 use Rattle.wal.specs.declared.Writer.the-variants.{Fresh, Finished}
 
@@ -65,7 +66,7 @@ nexts = refl
 abbrev reading : Reading
 reading = record { entries = clear 3 ∷ entry ∷ []; at = 143; stop = given tt }
 
-pub read : readLog log ≡ reading
+pub read : readLog Tolerant log ≡ reading
 unfolding readBy nextAt block marked slotsBelow
 read = refl
 
@@ -138,7 +139,7 @@ pub nexts-two : map (nextAt Two log-two) (22 ∷ 32 ∷ 0 ∷ 23 ∷ 4095 ∷ 40
 unfolding nextAt block marked slotsBelow
 nexts-two = refl
 
-pub read-two : readLog log-two ≡ record { entries = clear 3 ∷ []; at = 32; stop = given tt }
+pub read-two : readLog Tolerant log-two ≡ record { entries = clear 3 ∷ []; at = 32; stop = given tt }
 unfolding readBy nextAt block marked slotsBelow
 read-two = refl
 
@@ -149,3 +150,12 @@ pub writers-two : (map (clearAnswer (slice 8191)) (openAt Two 4084 ∷ openAt Tw
     × (beginWriter (slice 4096) Fresh Two ∷ recordWriter (given tt) (openAt Two 22) 10 ∷ [] ≡ openAt Two 22 ∷ openAt Two 32 ∷ [])
 unfolding clearAnswer updateAnswer finishAnswer beginAnswer marked slotsBelow
 writers-two = (refl, refl, refl, refl)
+
+-- W-208: the first byte after end and the last of the log, set, are 27 in place of end where zeros are wanted, in both editions; an entry before it
+-- and what is refused stay; the tolerant reader gives end. The mark of end is not "after end": a finished log gives end by both
+pub after-end : (map (λ l. readLog Zeros l) (log ∷ log-two ∷ []) ≡ map (λ l. readLog Tolerant l) (log ∷ log-two ∷ []))
+    × (map (λ l. readLog Zeros l .stop) (log ∷ set log 144 1 ∷ set log 4095 1 ∷ log-two ∷ set log-two 34 1 ∷ set log-two 4095 1 ∷ []) ≡ given tt ∷ refused 27 ∷ refused 27 ∷ given tt ∷ refused 27 ∷ refused 27 ∷ [])
+    × (readLog Tolerant (set log 144 1) ∷ readLog Tolerant (set log 4095 1) ∷ [] ≡ reading ∷ reading ∷ [])
+    × (map (nextBy Zeros One (set log 144 1)) (5 ∷ 143 ∷ 0 ∷ 4096 ∷ []) ≡ next (clear 3) 14 ∷ stopped 27 ∷ stopped 8 ∷ stopped 6 ∷ [])
+unfolding readBy nextAt block marked slotsBelow allZero
+after-end = (refl, refl, refl, refl)

@@ -1,4 +1,5 @@
 pub mod Records
+pub mod Endings
 pub mod RoundTrip
 pub mod Examples
 pub mod EditionOne

@@ -8,20 +8,24 @@ use native.Mathlib.Nat.{mul-mod-left}
 use native.Mathlib.Omega.{arith}
 use lib.Dec.{leb, eqb}
 use lib.ListN.{length, take, drop, replicate, length-append, length-replicate}
-use lib.Seq.{take-at}
+use lib.Seq.{take-at, drop-at}
 use borrow.Author.Tests.{le-leb, leb-true, eq-eqb, ne-eqb}
 use Rattle.answers.specs.Answers.{Answer, given, refused, accepted}
-use Rattle.blocks.specs.Blocks.{le, bytesOf, block, put}
+use Rattle.blocks.specs.Blocks.{le, bytesOf, block, put, allZero}
 use Rattle.blocks.proofs.Laws.{bytes-length, le-bytesOf, put-length, put-fits, put-append}
+use Rattle.blocks.proofs.Zeros.{zeros-replicate}
 use Rattle.page_diff.specs.Diff.{countOf, reserved}
 use Rattle.wal.specs.Log.{Entry, clear, update, mark, markSize, seedPart, seedSize, recordOf, recordsOf, startRecord, startSize, clearSize, updateSize, finishedLength, endRecord}
-use Rattle.wal.specs.Reader.{editionAt, marksAt, startIn, startOf, seedOf, Next, nextAt, Reading, stopAt, andThen, readOn, readIn, readBy, readAfterStart, readLog}
+use Rattle.wal.specs.Reader.{editionAt, marksAt, startIn, startOf, seedOf, Next, nextAt, wanted, Reading, stopAt, andThen, readOn, readIn, readBy, readAfterStart, readLog}
 use Rattle.wal.specs.Writer.{openAt, capacity, position, editionOf, ifOpen, ifRoom, beginAnswer, clearAnswer, updateAnswer, recordLog, recordWriter, finishAnswer, finishLog}
 use Rattle.wal.specs.Run.{WideStart, WellFormed, Run, begun, with-clear, with-update, endOf, logOf}
+use Rattle.wal.specs.declared.AfterEnd.{AfterEnd}
+use Rattle.wal.specs.declared.AfterEnd.the-variants.{Zeros, Tolerant}
 use Rattle.wal.specs.declared.Edition.{Edition}
 use Rattle.wal.specs.declared.Edition.the-variants.{One, Two}
 use Rattle.wal.specs.declared.Start.{Start}
 use Rattle.wal.specs.declared.Writer.{Writer}
+use Rattle.wal.proofs.Endings.{log-agrees}
 use Rattle.wal.proofs.Records.{block-in, mark-length, mark-some, mark-small, clear-length, update-length, record-length, next-record, next-end}
 
 -- every entry is one that a call can hand over
@@ -39,15 +43,15 @@ abbrev readAs : List Entry → ℕ → Reading
 readAs es at = record { entries = es; at = at; stop = given tt }
 
 -- with fuel for each entry
-pub read-records : (ed : Edition) (f : ℕ) (pre post : List ℕ) (es : List Entry) → AllWellFormed es → length es ≤ f
-    → readIn ed f (pre ++ (recordsOf ed es ++ (mark ed 2 ++ post))) (length pre) ≡ readAs es (length pre + length (recordsOf ed es))
+read-records : (ed : Edition) (f : ℕ) (pre post : List ℕ) (es : List Entry) → AllWellFormed es → length es ≤ f
+    → readIn Tolerant ed f (pre ++ (recordsOf ed es ++ (mark ed 2 ++ post))) (length pre) ≡ readAs es (length pre + length (recordsOf ed es))
 unfolding readBy recordsOf
 read-records ed zero pre post [] none l =
     let z : length pre ≡ length pre + 0 = omega arith in
     ap (λ (x : Next). readOn x (length pre) (λ p. stopAt p (refused 6))) (next-end ed pre post) ∙ ap (readAs []) z
 read-records ed (suc f) pre post [] none l =
     let z : length pre ≡ length pre + 0 = omega arith in
-    ap (λ (x : Next). readOn x (length pre) (λ p. readIn ed f (pre ++ (mark ed 2 ++ post)) p)) (next-end ed pre post) ∙ ap (readAs []) z
+    ap (λ (x : Next). readOn x (length pre) (λ p. readIn Tolerant ed f (pre ++ (mark ed 2 ++ post)) p)) (next-end ed pre post) ∙ ap (readAs []) z
 read-records ed zero pre post (e ∷ es) (more h hs) l = absurd (omega arith)
 read-records ed (suc f) pre post (e ∷ es) (more h hs) l =
     let tail : List ℕ = recordsOf ed es ++ (mark ed 2 ++ post) in
@@ -56,8 +60,8 @@ read-records ed (suc f) pre post (e ∷ es) (more h hs) l =
     let shift : log ≡ (pre ++ recordOf ed e) ++ tail = split ∙ sym (append-assoc pre (recordOf ed e) tail) in
     let here : length pre + length (recordOf ed e) ≡ length (pre ++ recordOf ed e) = sym (length-append pre (recordOf ed e)) in
     let far : length (pre ++ recordOf ed e) + length (recordsOf ed es) ≡ length pre + length (recordOf ed e ++ recordsOf ed es) = omega (arith, length-append pre (recordOf ed e), length-append (recordOf ed e) (recordsOf ed es)) in
-    ap (λ (x : Next). readOn x (length pre) (λ p. readIn ed f log p)) (ap (λ (x : List ℕ). nextAt ed x (length pre)) split ∙ next-record ed pre tail e h)
-    ∙ ap (andThen e) (ap₂ (λ (x : List ℕ) (p : ℕ). readIn ed f x p) shift here ∙ read-records ed f (pre ++ recordOf ed e) post es hs (omega arith) ∙ ap (readAs es) far)
+    ap (λ (x : Next). readOn x (length pre) (λ p. readIn Tolerant ed f log p)) (ap (λ (x : List ℕ). nextAt ed x (length pre)) split ∙ next-record ed pre tail e h)
+    ∙ ap (andThen e) (ap₂ (λ (x : List ℕ) (p : ℕ). readIn Tolerant ed f x p) shift here ∙ read-records ed f (pre ++ recordOf ed e) post es hs (omega arith) ∙ ap (readAs es) far)
 
 -- ---- the widths of a start and of an end
 pub seed-length : (start : Start) → WideStart start → length (seedPart (start .edition) (start .seed)) ≡ seedSize (start .edition)
@@ -162,16 +166,33 @@ module _ (start : Start) (es : List Entry) where
     seed-back two = seed-told start after-start wide two
 
     -- "A finished log reads back as exactly the entries written"
-    read-back : AllWellFormed es → readAfterStart its-edition (logOf start es) ≡ record { entries = es; at = endOf start es; stop = given tt }
+    read-back : AllWellFormed es → readAfterStart Tolerant its-edition (logOf start es) ≡ record { entries = es; at = endOf start es; stop = given tt }
     read-back hs =
         let pos : ℕ = endOf start es in
         let zeros : List ℕ = replicate (finishedLength its-edition pos - (pos + markSize its-edition)) 0 in
-        ap (λ (p : ℕ). readIn its-edition (length (logOf start es)) (logOf start es) p) (sym (start-length start wide))
+        ap (λ (p : ℕ). readIn Tolerant its-edition (length (logOf start es)) (logOf start es) p) (sym (start-length start wide))
         ∙ read-records its-edition (length (logOf start es)) (startRecord start) zeros es hs (omega (arith, records-length its-edition es hs, log-length))
         ∙ ap (λ (n : ℕ). readAs es (n + length (recordsOf its-edition es))) (start-length start wide)
 
-    pub entries-back : AllWellFormed es → readLog (logOf start es) ≡ record { entries = es; at = endOf start es; stop = given tt }
-    entries-back hs = ap (λ (e : Edition). readAfterStart e (logOf start es)) edition-back ∙ read-back hs
+    -- by a tolerant reader, and by one that wants zeros after end, since zeros stand there
+    tolerant-back : AllWellFormed es → readLog Tolerant (logOf start es) ≡ record { entries = es; at = endOf start es; stop = given tt }
+    tolerant-back hs = ap (λ (e : Edition). readAfterStart Tolerant e (logOf start es)) edition-back ∙ read-back hs
+
+    zeros-follow : (rule : AfterEnd) → wanted rule (logOf start es) (endOf start es + markSize its-edition) ≡ true
+    zeros-follow Tolerant = refl
+    zeros-follow Zeros =
+        let pos : ℕ = endOf start es in
+        let zeros : List ℕ = replicate (finishedLength its-edition pos - (pos + markSize its-edition)) 0 in
+        let before : List ℕ = startRecord start ++ (recordsOf its-edition es ++ mark its-edition 2) in
+        let split : logOf start es ≡ before ++ zeros = simp append-assoc in
+        let long : length before ≡ pos + markSize its-edition =
+        omega (arith, length-append (startRecord start) (recordsOf its-edition es ++ mark its-edition 2), start-length start wide, length-append (recordsOf its-edition es) (mark its-edition 2), mark-length its-edition 2) in
+        ap allZero (ap (drop (pos + markSize its-edition)) split ∙ drop-at before zeros (pos + markSize its-edition) long) ∙ zeros-replicate (finishedLength its-edition pos - (pos + markSize its-edition))
+
+    pub entries-back : (rule : AfterEnd) → AllWellFormed es → readLog rule (logOf start es) ≡ record { entries = es; at = endOf start es; stop = given tt }
+    entries-back rule hs =
+        let t = tolerant-back hs in
+        log-agrees rule (logOf start es) (ap₂ (λ (r : Reading) (e : Edition). wanted rule (logOf start es) (r .at + markSize e)) t edition-back ∙ zeros-follow rule) ∙ t
 
 -- ---- runs of accepted calls
 pub records-snoc : (ed : Edition) (es : List Entry) (e : Entry) → recordsOf ed (es ++ (e ∷ [])) ≡ recordsOf ed es ++ recordOf ed e
@@ -327,5 +348,5 @@ module _ (log₀ : List ℕ) (start : Start) (w : Writer) (log : List ℕ) (es :
   pub round-trip-start : startOf (take (finishedLength (start .edition) (endOf start es)) (finishLog log w)) ≡ given (start .sync)
   round-trip-start = ap startOf finished-log ∙ start-back start es (run-made log₀ start run .wide)
 
-  pub round-trip : readLog (take (finishedLength (start .edition) (endOf start es)) (finishLog log w)) ≡ record { entries = es; at = endOf start es; stop = given tt }
-  round-trip = ap readLog finished-log ∙ entries-back start es (run-made log₀ start run .wide) (run-made log₀ start run .all)
+  pub round-trip : (rule : AfterEnd) → readLog rule (take (finishedLength (start .edition) (endOf start es)) (finishLog log w)) ≡ record { entries = es; at = endOf start es; stop = given tt }
+  round-trip rule = ap (readLog rule) finished-log ∙ entries-back start es (run-made log₀ start run .wide) rule (run-made log₀ start run .all)

@@ -1,13 +1,16 @@
--- 01, 'Reader', and 02, W-207: what reading a log of an edition at a position gives. 01's reader is that of edition one. Assumes nothing.
-use mathlib.Core.Bool.{Bool, cond, _&&_}
+-- 01, 'Reader', and 02, W-207 and W-208: what reading a log of an edition at a position gives. 01's reader is the tolerant one of edition one.
+-- Assumes nothing.
+use mathlib.Core.Bool.{Bool, true, false, cond, _&&_}
 use mathlib.Core.List.{List, [], _∷_}
 use Prim.Native.Nat.{ℕ, zero, suc, _+_, _*_, _%_}
 use lib.Dec.{leb, eqb}
-use lib.ListN.{length, getD}
+use lib.ListN.{length, getD, drop}
 use Rattle.answers.specs.Answers.{Answer, given, refused}
-use Rattle.blocks.specs.Blocks.{le, block}
+use Rattle.blocks.specs.Blocks.{le, block, allZero}
 use Rattle.page_diff.specs.Diff.{wordsOf, countOf, reserved}
 use Rattle.wal.specs.Log.{Entry, clear, update, markSize, startSize, clearBody, updateBody}
+use Rattle.wal.specs.declared.AfterEnd.{AfterEnd}
+use Rattle.wal.specs.declared.AfterEnd.the-variants.{Zeros, Tolerant}
 use Rattle.wal.specs.declared.Edition.{Edition}
 use Rattle.wal.specs.declared.Edition.the-variants.{One, Two}
 
@@ -93,6 +96,23 @@ unfoldable pub nextAt : Edition → List ℕ → ℕ → Next
 unfolding clearAt updateAt
 nextAt ed log at = byMark ed log at (λ t. byTag t log (at + markSize ed)) stopped
 
+-- "What follows end": from p on, where the mark of end is over, up to the end of the lent log. "The reader (on coming to end) and replay want
+-- zeros there by default. Tolerant calls with the former rule remain"
+abbrev pub wanted : AfterEnd → List ℕ → ℕ → Bool
+wanted Zeros log p = allZero (drop p log)
+wanted Tolerant log p = true
+
+-- "27, a byte after end not zero, from the reader in place of end"
+abbrev pub onEnd : Bool → Next → Next
+onEnd true x = x
+onEnd false (next e p) = next e p
+onEnd false ended = stopped 27
+onEnd false (stopped n) = stopped n
+
+-- what a reader gives at a position, by what it wants after end
+abbrev pub nextBy : AfterEnd → Edition → List ℕ → ℕ → Next
+nextBy rule ed log at = onEnd (wanted rule log (at + markSize ed)) (nextAt ed log at)
+
 -- the whole of a log from a position on: its entries, where the reading stops, and at what: the end, or a refusal
 pub record Reading : Type 0 where
   pub entries : List Entry
@@ -116,16 +136,16 @@ unfoldable pub readBy : (ℕ → Next) → ℕ → ℕ → Reading
 readBy step zero at = readOn (step at) at (λ p. stopAt p (refused 6))
 readBy step (suc f) at = readOn (step at) at (λ p. readBy step f p)
 
-abbrev pub readIn : Edition → ℕ → List ℕ → ℕ → Reading
-readIn ed f log at = readBy (nextAt ed log) f at
+abbrev pub readIn : AfterEnd → Edition → ℕ → List ℕ → ℕ → Reading
+readIn rule ed f log at = readBy (λ p. nextBy rule ed log p) f at
 
 -- the bytes of the log are such a bound
-abbrev pub readFrom : Edition → List ℕ → ℕ → Reading
-readFrom ed log at = readIn ed (length log) log at
+abbrev pub readFrom : AfterEnd → Edition → List ℕ → ℕ → Reading
+readFrom rule ed log at = readIn rule ed (length log) log at
 
 -- a whole log, after its start, read as of an edition, and as of its own
-abbrev pub readAfterStart : Edition → List ℕ → Reading
-readAfterStart ed log = readFrom ed log (startSize ed)
+abbrev pub readAfterStart : AfterEnd → Edition → List ℕ → Reading
+readAfterStart rule ed log = readFrom rule ed log (startSize ed)
 
-abbrev pub readLog : List ℕ → Reading
-readLog log = readAfterStart (editionAt log) log
+abbrev pub readLog : AfterEnd → List ℕ → Reading
+readLog rule log = readAfterStart rule (editionAt log) log

@@ -44,6 +44,12 @@ pub struct Start {
     pub seed: [u8; 16],
 }
 
+// What is wanted after the end of a log: zeros, up to the end of what is lent; or, by a tolerant call, nothing.
+pub enum AfterEnd {
+    Zeros,
+    Tolerant,
+}
+
 // Where a writer stands: not begun, open at a position of a log of an edition, or finished with a length. It goes
 // by value; the log is lent at each call.
 pub enum Writer {

@@ -15,6 +15,7 @@ use Rattle.wal.specs.Log.{Entry, clear, update, startSize}
 use Rattle.wal.specs.Reader.{Next, next, ended, stopped, editionAt, startOf, nextAt, Reading, stopAt, andThen, readFrom}
 use Rattle.wal.specs.declared.Edition.{Edition}
 use Rattle.wal.specs.declared.Edition.the-variants.{One, Two}
+use Rattle.wal.specs.declared.AfterEnd.the-variants.{Tolerant}
 use Rattle.wal_read.proofs.NextLaws.{start-long, next-past}
 use Rattle.wal_read.proofs.ReadLaws.{moves, clear-moves, update-moves, read-entry, read-end, read-stop}
 use Rattle.wal_list.specs.Lines.{ascii, decimal, startLine, entryLine, refusedLine, sizeOf, entryLines, stopLine, readingLines, startedLines, linesOf}
@@ -38,8 +39,8 @@ start-few Two = omega arith
 
 -- the position after an entry is its own and its size
 size-moves : (ed : Edition) (log : List ℕ) (at : ℕ) (e : Entry) (p : ℕ) → nextAt ed log at ≡ next e p → p ≡ at + sizeOf ed e
-size-moves ed log at (clear b) p h = clear-moves ed log at b p h
-size-moves ed log at (update id ws ns elided b) p h = update-moves ed log at id ws ns elided b p h .after
+size-moves ed log at (clear b) p h = clear-moves Tolerant ed log at b p h
+size-moves ed log at (update id ws ns elided b) p h = update-moves Tolerant ed log at id ws ns elided b p h .after
 
 -- a reading's lines, by what stands first
 reading-entry : (ed : Edition) (at p : ℕ) (e : Entry) (r : Reading) → p ≡ at + sizeOf ed e → entryLine at e ++ readingLines ed p r ≡ readingLines ed at (andThen e r)
@@ -52,26 +53,26 @@ unfolding entryLines
 reading-stop ed at a = refl
 
 -- from the first entry on
-pub lines-from : (f : ℕ) (log : List ℕ) (at : ℕ) → (at ≡ 0 → ⊥) → length log ≤ at + f → linesIn f log at ≡ readingLines (editionAt log) at (readFrom (editionAt log) log at)
+pub lines-from : (f : ℕ) (log : List ℕ) (at : ℕ) → (at ≡ 0 → ⊥) → length log ≤ at + f → linesIn f log at ≡ readingLines (editionAt log) at (readFrom Tolerant (editionAt log) log at)
 unfolding linesIn
 lines-from zero log at n h =
     let ed = editionAt log in
     let e = next-past ed log at (omega arith) in
-    ap textOf (shown-next log at (stopped 6) n e) ∙ reading-stop ed at (refused 6) ∙ sym (ap (readingLines ed at) (read-stop ed log at 6 e))
+    ap textOf (shown-next log at (stopped 6) n e) ∙ reading-stop ed at (refused 6) ∙ sym (ap (readingLines ed at) (read-stop Tolerant ed log at 6 e))
 lines-from (suc f) log at n h = go (nextAt (editionAt log) log at) refl (lines-from f log)
   where
     ed : Edition
     ed = editionAt log
 
-    go : (x : Next) → nextAt ed log at ≡ x → ((p : ℕ) → (p ≡ 0 → ⊥) → length log ≤ p + f → linesIn f log p ≡ readingLines ed p (readFrom ed log p)) → andOn (shownAt log at) (linesIn f log) ≡ readingLines ed at (readFrom ed log at)
+    go : (x : Next) → nextAt ed log at ≡ x → ((p : ℕ) → (p ≡ 0 → ⊥) → length log ≤ p + f → linesIn f log p ≡ readingLines ed p (readFrom Tolerant ed log p)) → andOn (shownAt log at) (linesIn f log) ≡ readingLines ed at (readFrom Tolerant ed log at)
     go (next e p) i r =
-        let m = moves ed log at e p i in
+        let m = moves Tolerant ed log at e p i in
         ap (λ (s : Shown). andOn s (linesIn f log)) (shown-next log at (next e p) n i)
         ∙ ap (λ (t : List ℕ). entryLine at e ++ t) (r p (λ z. omega arith) (omega arith))
-        ∙ reading-entry ed at p e (readFrom ed log p) (size-moves ed log at e p i)
-        ∙ sym (ap (readingLines ed at) (read-entry ed log at e p i))
-    go ended i r = ap (λ (s : Shown). andOn s (linesIn f log)) (shown-next log at ended n i) ∙ reading-stop ed at (given tt) ∙ sym (ap (readingLines ed at) (read-end ed log at i))
-    go (stopped k) i r = ap (λ (s : Shown). andOn s (linesIn f log)) (shown-next log at (stopped k) n i) ∙ reading-stop ed at (refused k) ∙ sym (ap (readingLines ed at) (read-stop ed log at k i))
+        ∙ reading-entry ed at p e (readFrom Tolerant ed log p) (size-moves ed log at e p i)
+        ∙ sym (ap (readingLines ed at) (read-entry Tolerant ed log at e p i))
+    go ended i r = ap (λ (s : Shown). andOn s (linesIn f log)) (shown-next log at ended n i) ∙ reading-stop ed at (given tt) ∙ sym (ap (readingLines ed at) (read-end Tolerant ed log at i))
+    go (stopped k) i r = ap (λ (s : Shown). andOn s (linesIn f log)) (shown-next log at (stopped k) n i) ∙ reading-stop ed at (refused k) ∙ sym (ap (readingLines ed at) (read-stop Tolerant ed log at k i))
 
 -- the definition, test by test
 module _ (log : List ℕ) where
@@ -170,7 +171,7 @@ next-leads : (log : List ℕ) (at : ℕ) (t : List ℕ) (p : ℕ) → nextShown 
 next-leads log at t p h = go (nextAt (editionAt log) log at) refl h
   where
     go : (n : Next) → nextAt (editionAt log) log at ≡ n → nextShown n at ≡ more t p → Leads log at p
-    go (next e q) i h = let s : q ≡ p = cc in let m = moves (editionAt log) log at e q i in record { on = omega arith; within = omega arith }
+    go (next e q) i h = let s : q ≡ p = cc in let m = moves Tolerant (editionAt log) log at e q i in record { on = omega arith; within = omega arith }
     go ended i h = let z : _≡_ {A = ℕ} 0 1 = cc in absurd (omega arith)
     go (stopped k) i h = let z : _≡_ {A = ℕ} 0 1 = cc in absurd (omega arith)
 

@@ -6,7 +6,7 @@ use mathlib.Core.List.{List, [], _∷_, _++_, map}
 use Prim.Native.Nat.{ℕ, _-_, _<_}
 use native.Mathlib.Omega.{arith}
 use lib.Dec.{leb}
-use lib.ListN.{length, getD, take, replicate, length-replicate, getD-replicate}
+use lib.ListN.{length, getD, take, set, replicate, length-replicate, getD-replicate}
 use Rattle.answers.specs.Answers.{Answer, given, refused}
 use Rattle.answers.specs.declared.Refusal.the-variants.{LengthUnfit}
 use Rattle.blocks.specs.Blocks.{block, put, flat}
@@ -43,6 +43,11 @@ texts = refl
 pub texts-two : map linesOf (log-two ∷ (take 22 log-two ++ (3 ∷ replicate 4073 0)) ∷ (0xB2 ∷ 2 ∷ replicate 4094 0) ∷ []) ≡ ascii "0 start 7\n22 clear 3\n32 end\n" ∷ ascii "0 start 7\n22 refused 8\n" ∷ ascii "0 refused 7\n" ∷ []
 unfolding linesOf startIn readBy nextAt block marked slotsBelow digitsIn entryLines
 texts-two = refl
+
+-- "`list` moves to the tolerant reader": a label after end is no refusal, in either edition
+pub labelled : map linesOf (set log-two 34 76 ∷ (1 ∷ 7 ∷ 0 ∷ 0 ∷ 0 ∷ 2 ∷ replicate 4090 76) ∷ []) ≡ ascii "0 start 7\n22 clear 3\n32 end\n" ∷ ascii "0 start 7\n5 end\n" ∷ []
+unfolding linesOf startIn readBy nextAt block marked slotsBelow digitsIn entryLines
+labelled = refl
 
 -- its lines one by one; at the log's last byte 0xB2 is 6, and any other byte 8
 pub shown-two : map (shownAt log-two) (0 ∷ 22 ∷ 32 ∷ 4095 ∷ []) ++ (shownAt (take 4095 log-two ++ (0xB2 ∷ [])) 4095 ∷ [])

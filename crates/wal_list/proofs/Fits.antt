@@ -12,6 +12,7 @@ use Rattle.page_diff.specs.Diff.{countOf}
 use Rattle.wal.specs.Log.{Entry, clear, update, startSize}
 use Rattle.wal.specs.Reader.{Next, next, ended, stopped, editionAt, startOf, nextAt}
 use Rattle.wal.specs.declared.Edition.{Edition}
+use Rattle.wal.specs.declared.AfterEnd.the-variants.{Tolerant}
 use Rattle.wal.proofs.Records.{mark-some}
 use Rattle.wal_read.proofs.NextLaws.{start-long}
 use Rattle.wal_read.proofs.ReadLaws.{moves, clear-moves, update-moves}
@@ -28,7 +29,7 @@ field at n w h =
 
 -- an entry's line against the entry
 entry-fits : (ed : Edition) (log : List ℕ) (at : ℕ) (e : Entry) (p : ℕ) → at ≤ 65536 → nextAt ed log at ≡ next e p → length (entryLine at e) + 4 * at ≤ 4 * p
-entry-fits ed log at (clear b) p h i = omega (arith, field at b (ascii " clear ") h, mark-some ed, clear-moves ed log at b p i)
+entry-fits ed log at (clear b) p h i = omega (arith, field at b (ascii " clear ") h, mark-some ed, clear-moves Tolerant ed log at b p i)
 entry-fits ed log at (update id ws ns elided b) p h i =
     let u : List ℕ = decimal at ++ ascii " update " in
     let c : List ℕ = decimal (countOf ws) in
@@ -43,7 +44,7 @@ entry-fits ed log at (update id ws ns elided b) p h i =
       length-append u (decimal b),
       length-append (decimal at) (ascii " update "),
       mark-some ed,
-      update-moves ed log at id ws ns elided b p i .after,
+      update-moves Tolerant ed log at id ws ns elided b p i .after,
     )
 
 -- the lines from an entry on
@@ -56,14 +57,14 @@ module _ (log : List ℕ) (few : length log ≤ 65536) where
   from-fits zero at n h = go (nextAt its log at) refl
     where
       go : (x : Next) → nextAt its log at ≡ x → length (textOf (shownAt log at)) + 4 * at ≤ 4 * length log + 35
-      go (next e p) i = let m = moves its log at e p i in omega (arith, ap (λ (s : Shown). length (textOf s)) (shown-next log at (next e p) n i), entry-fits its log at e p (omega arith) i)
+      go (next e p) i = let m = moves Tolerant its log at e p i in omega (arith, ap (λ (s : Shown). length (textOf s)) (shown-next log at (next e p) n i), entry-fits its log at e p (omega arith) i)
       go ended i = omega (arith, ap (λ (s : Shown). length (textOf s)) (shown-next log at ended n i), offset-length at (omega arith), length-append (decimal at) (ascii " end\n"))
       go (stopped k) i = omega (arith, ap (λ (s : Shown). length (textOf s)) (shown-next log at (stopped k) n i), field at k (ascii " refused ") (omega arith))
   from-fits (suc f) at n h = go (nextAt its log at) refl (from-fits f)
     where
       go : (x : Next) → nextAt its log at ≡ x → ((p : ℕ) → (p ≡ 0 → ⊥) → p ≤ length log → length (linesIn f log p) + 4 * p ≤ 4 * length log + 35) → length (andOn (shownAt log at) (linesIn f log)) + 4 * at ≤ 4 * length log + 35
       go (next e p) i r =
-          let m = moves its log at e p i in
+          let m = moves Tolerant its log at e p i in
           omega (
             arith,
             ap (λ (s : Shown). length (andOn s (linesIn f log))) (shown-next log at (next e p) n i),

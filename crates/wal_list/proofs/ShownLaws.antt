@@ -15,6 +15,7 @@ use denote.Enum.Declared.{tagOf}
 use Rattle.blocks.specs.Blocks.{le, block, put}
 use Rattle.wal.specs.Log.{markSize}
 use Rattle.wal.specs.Reader.{Next, next, editionAt, startOf, updateOf, nextAt}
+use Rattle.wal.specs.declared.AfterEnd.the-variants.{Tolerant}
 use Rattle.wal_read.specs.declared.Head.{Head}
 use Rattle.wal_read.specs.declared.Head.the-variants as head
 use Rattle.wal_read.proofs.Head as HeadT
@@ -70,7 +71,7 @@ pub with-room : (l m : List ℕ) (s : Shown) (a : Answer Said) → 80 ≤ length
 with-room l m s a h (x, y) = (x ∙ room-answer l s h, y ∙ room-after l s h)
 
 -- an update's line, by its head
-pub shown-update : (log : List ℕ) (at b c p : ℕ) → (at ≡ 0 → ⊥) → There (editionAt log) log at b c p → shownAt log at ≡ more (decimal at ++ ascii " update " ++ decimal b ++ ascii " " ++ decimal c ++ ascii "\n") p
+pub shown-update : (log : List ℕ) (at b c p : ℕ) → (at ≡ 0 → ⊥) → There Tolerant (editionAt log) log at b c p → shownAt log at ≡ more (decimal at ++ ascii " update " ++ decimal b ++ ascii " " ++ decimal c ++ ascii "\n") p
 unfolding updateOf
 shown-update log at b c p n t =
     shown-next log at (next (updateOf log (at + markSize (editionAt log))) p) n (t .here)

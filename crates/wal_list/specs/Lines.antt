@@ -1,4 +1,4 @@
--- 01, 'Reading off a log', and 02, W-207: the lines of `list`, byte for byte, of a log of either edition. Assumes nothing.
+-- 01, 'Reading off a log', and 02, W-207 and W-208: the lines of `list`, byte for byte, of a log of either edition. Assumes nothing.
 use mathlib.Core.Bool.{cond}
 use mathlib.Core.List.{List, [], _∷_, _++_}
 use Prim.Native.Char.{code}
@@ -11,6 +11,7 @@ use Rattle.answers.specs.Answers.{Answer, given, refused}
 use Rattle.page_diff.specs.Diff.{countOf}
 use Rattle.wal.specs.Log.{Entry, clear, update, startSize, clearSize, updateSize}
 use Rattle.wal.specs.Reader.{editionAt, startOf, Reading, readLog}
+use Rattle.wal.specs.declared.AfterEnd.the-variants.{Tolerant}
 use Rattle.wal.specs.declared.Edition.{Edition}
 
 -- the bytes of a text
@@ -59,8 +60,9 @@ stopLine at (refused n) = refusedLine at n
 abbrev pub readingLines : Edition → ℕ → Reading → List ℕ
 readingLines ed at r = entryLines ed at (r .entries) ++ stopLine (r .at) (r .stop)
 
+-- "`list` moves to the tolerant reader"
 abbrev pub startedLines : Answer ℕ → List ℕ → List ℕ
-startedLines (given sync) log = startLine sync ++ readingLines (editionAt log) (startSize (editionAt log)) (readLog log)
+startedLines (given sync) log = startLine sync ++ readingLines (editionAt log) (startSize (editionAt log)) (readLog Tolerant log)
 startedLines (refused n) log = refusedLine 0 n
 
 -- "a log of at most 65,536 bytes on standard input (longer: `0 refused 2`; none: `empty`)"

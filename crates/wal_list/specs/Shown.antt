@@ -8,7 +8,8 @@ use Rattle.answers.specs.Answers.{Answer, given, refused}
 use Rattle.answers.specs.Refusals.{numberOf}
 use Rattle.blocks.specs.Blocks.{put}
 use Rattle.wal.specs.Log.{startSize}
-use Rattle.wal.specs.Reader.{Next, next, ended, stopped, editionAt, startOf, nextAt}
+use Rattle.wal.specs.Reader.{Next, next, ended, stopped, editionAt, startOf, nextBy}
+use Rattle.wal.specs.declared.AfterEnd.the-variants.{Tolerant}
 use Rattle.wal.specs.declared.Edition.{Edition}
 use Rattle.wal_list.specs.Lines.{ascii, startLine, entryLine, endLine, refusedLine, most, linesOf}
 use Rattle.wal_list.specs.declared.Line.{Line}
@@ -35,7 +36,7 @@ nextShown (stopped n) at = last (refusedLine at n)
 
 -- the line of the record at a position, by the edition that the first byte tells; the start is at 0
 abbrev pub shownAt : List ℕ → ℕ → Shown
-shownAt log at = cond (eqb at 0) (firstShown log) (nextShown (nextAt (editionAt log) log at) at)
+shownAt log at = cond (eqb at 0) (firstShown log) (nextShown (nextBy Tolerant (editionAt log) log at) at)
 
 abbrev pub textOf : Shown → List ℕ
 textOf (more t p) = t

@@ -12,7 +12,8 @@ use Rattle.page_diff.specs.Diff.{countOf, readWords}
 use Rattle.page_diff.specs.Pack.{packedBy}
 use Rattle.page_diff.specs.declared.Packed.{Packed}
 use Rattle.wal.specs.Log.{clear, markSize}
-use Rattle.wal.specs.Reader.{Next, next, ended, stopped, nodesFrom, diffAt, updateOf, nextAt}
+use Rattle.wal.specs.Reader.{Next, next, ended, stopped, nodesFrom, diffAt, updateOf, nextBy}
+use Rattle.wal.specs.declared.AfterEnd.{AfterEnd}
 use Rattle.wal.specs.declared.Edition.{Edition}
 use Rattle.wal_read.specs.Head.{headSaid}
 use Rattle.wal_read.specs.Entry.{updates, whatSaid, rows, Taken}
@@ -49,13 +50,13 @@ module _ (at : ℕ) (e : WalEntry) where
       (record { what-is = ap whatSaid (k .what-is); id-is = k .id-is; diff-is = k .diff-is; packed-is = bare-packed (e .packed) (k .packed-is); elided-is = k .elided-is; next-is = k .next-is })
 
 -- ---- an update, field by field
-module _ (ed : Edition) (log : List ℕ) (at b c p : ℕ) (e : WalEntry) (t : There ed log at b c p) where
+module _ (rule : AfterEnd) (ed : Edition) (log : List ℕ) (at b c p : ℕ) (e : WalEntry) (t : There rule ed log at b c p) where
   abbrev body : ℕ
   body = at + markSize ed
 
   -- the fields as they are read m bytes after the mark's first
   pub update-taken : (m : ℕ) → m ≡ markSize ed → e .what ≡ what.Update b → e .id ≡ block 32 log (at + m) → e .diff .words ≡ readWords (block 16 log (at + m + 32)) → e .packed ≡ packedBy (rows (nodesFrom log (at + m + 48) c)) c
-      → e .elided ≡ block 8 log (at + m + 48 + 32 * c) → e .next ≡ p → Taken (nextAt ed log at) at e
+      → e .elided ≡ block 8 log (at + m + 48 + 32 * c) → e .next ≡ p → Taken (nextBy rule ed log at) at e
   unfolding updateOf
   update-taken m same-mark w i d k l n =
       let same : c ≡ countOf (diffAt log body) = t .count in

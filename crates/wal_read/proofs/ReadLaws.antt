@@ -14,7 +14,8 @@ use Rattle.blocks.specs.Blocks.{le, block}
 use Rattle.page_diff.specs.Diff.{countOf, reserved}
 use Rattle.page_diff.proofs.Walk.{plain-count}
 use Rattle.wal.specs.Log.{Entry, clear, update, markSize, updateBody, clearSize, updateSize}
-use Rattle.wal.specs.Reader.{Next, next, ended, stopped, nodesFrom, diffAt, updateOf, byTag, tagAt, nextAt, Reading, stopAt, andThen, readOn, readIn, readBy, readFrom}
+use Rattle.wal.specs.Reader.{Next, next, ended, stopped, nodesFrom, diffAt, updateOf, byTag, tagAt, nextAt, wanted, onEnd, nextBy, Reading, stopAt, andThen, readOn, readIn, readBy, readFrom}
+use Rattle.wal.specs.declared.AfterEnd.{AfterEnd}
 use Rattle.wal.specs.declared.Edition.{Edition}
 use Rattle.wal.proofs.Records.{mark-some}
 use Rattle.wal_read.specs.Head.{aClear, anUpdate, theEnd, aRefusal, headOf}
@@ -57,20 +58,41 @@ module _ (ed : Edition) (log : List ℕ) (at : ℕ) where
       go false false true x y z q = of 4 z update-stands
       go false false false x y z q = stop 8 (by-unknown log body t (eqb-false t 2 x) (eqb-false t 3 y) (eqb-false t 4 z))
 
-  pub stands : Stands ed log at (nextAt ed log at)
-  stands = go (tagAt ed log at) refl
+  at-stands : Stands ed log at (nextAt ed log at)
+  at-stands = go (tagAt ed log at) refl
     where
       go : (a : Answer ℕ) → tagAt ed log at ≡ a → Stands ed log at (nextAt ed log at)
       go (given t) e = subst (Stands ed log at) (sym (next-tagged ed log at t e)) (tag-stands t (mark-within ed log at t e))
       go (refused n) e = stop n (next-unmarked ed log at n e)
+
+  -- where something else is wanted after end, 27 stands in place of end
+  end-stands : (t : Bool) (n : Next) → Stands ed log at n → Stands ed log at (onEnd t n)
+  end-stands true n s = s
+  end-stands false n (a-clear l) = a-clear l
+  end-stands false n (an-update r l) = an-update r l
+  end-stands false n (an-end l) = a-stop 27
+  end-stands false n (a-stop k) = a-stop k
+
+pub stands : (rule : AfterEnd) (ed : Edition) (log : List ℕ) (at : ℕ) → Stands ed log at (nextBy rule ed log at)
+stands rule ed log at = end-stands ed log at (wanted rule log (at + markSize ed)) (nextAt ed log at) (at-stands ed log at)
+
+-- the mark of end is inside the log
+pub end-within : (ed : Edition) (log : List ℕ) (at : ℕ) → nextAt ed log at ≡ ended → at + markSize ed ≤ length log
+end-within ed log at h = go (nextAt ed log at) (at-stands ed log at) h
+  where
+    go : (n : Next) → Stands ed log at n → n ≡ ended → at + markSize ed ≤ length log
+    go n (a-clear l) h = let z : _≡_ {A = ℕ} 0 1 = cc in absurd (omega arith)
+    go n (an-update r l) h = let z : _≡_ {A = ℕ} 0 1 = cc in absurd (omega arith)
+    go n (an-end l) h = l
+    go n (a-stop k) h = let z : _≡_ {A = ℕ} 0 1 = cc in absurd (omega arith)
 
 -- ---- an entry moves the position on by its size, and stays within the log
 pub record Moved (log : List ℕ) (at p : ℕ) : Type 0 where
   pub on : at + 9 ≤ p
   pub within : p ≤ length log
 
-pub moves : (ed : Edition) (log : List ℕ) (at : ℕ) (e : Entry) (p : ℕ) → nextAt ed log at ≡ next e p → Moved log at p
-moves ed log at e p h = go (nextAt ed log at) (stands ed log at) h
+pub moves : (rule : AfterEnd) (ed : Edition) (log : List ℕ) (at : ℕ) (e : Entry) (p : ℕ) → nextBy rule ed log at ≡ next e p → Moved log at p
+moves rule ed log at e p h = go (nextBy rule ed log at) (stands rule ed log at) h
   where
     go : (n : Next) → Stands ed log at n → n ≡ next e p → Moved log at p
     go n (a-clear l) h = let q : p ≡ at + markSize ed + 8 = cc in record { on = omega (arith, mark-some ed); within = omega arith }
@@ -78,9 +100,9 @@ moves ed log at e p h = go (nextAt ed log at) (stands ed log at) h
     go n (an-end l) h = let z : _≡_ {A = ℕ} 0 1 = cc in absurd (omega arith)
     go n (a-stop k) h = let z : _≡_ {A = ℕ} 0 1 = cc in absurd (omega arith)
 
-pub clear-moves : (ed : Edition) (log : List ℕ) (at b p : ℕ) → nextAt ed log at ≡ next (clear b) p → p ≡ at + clearSize ed
+pub clear-moves : (rule : AfterEnd) (ed : Edition) (log : List ℕ) (at b p : ℕ) → nextBy rule ed log at ≡ next (clear b) p → p ≡ at + clearSize ed
 unfolding updateOf
-clear-moves ed log at b p h = go (nextAt ed log at) (stands ed log at) h
+clear-moves rule ed log at b p h = go (nextBy rule ed log at) (stands rule ed log at) h
   where
     go : (n : Next) → Stands ed log at n → n ≡ next (clear b) p → p ≡ at + clearSize ed
     go n (a-clear l) h = let q : p ≡ at + markSize ed + 8 = cc in omega arith
@@ -95,9 +117,9 @@ pub record Sized (ed : Edition) (log : List ℕ) (at : ℕ) (ws : List ℕ) (ns 
   pub nodes : length ns ≡ countOf ws
   pub after : p ≡ at + updateSize ed (countOf ws)
 
-pub update-moves : (ed : Edition) (log : List ℕ) (at : ℕ) (id ws : List ℕ) (ns : List (List ℕ)) (elided : List ℕ) (b p : ℕ) → nextAt ed log at ≡ next (update id ws ns elided b) p → Sized ed log at ws ns p
+pub update-moves : (rule : AfterEnd) (ed : Edition) (log : List ℕ) (at : ℕ) (id ws : List ℕ) (ns : List (List ℕ)) (elided : List ℕ) (b p : ℕ) → nextBy rule ed log at ≡ next (update id ws ns elided b) p → Sized ed log at ws ns p
 unfolding updateOf
-update-moves ed log at id ws ns elided b p h = go (nextAt ed log at) (stands ed log at) h
+update-moves rule ed log at id ws ns elided b p h = go (nextBy rule ed log at) (stands rule ed log at) h
   where
     go : (n : Next) → Stands ed log at n → n ≡ next (update id ws ns elided b) p → Sized ed log at ws ns p
     go n (a-clear l) h = let z : _≡_ {A = ℕ} 0 1 = cc in absurd (omega arith)
@@ -134,8 +156,8 @@ head-clear ended b p h = let z : _≡_ {A = ℕ} 0 1 = cc in absurd (omega arith
 head-clear (stopped n) b p h = let z : _≡_ {A = ℕ} 0 1 = cc in absurd (omega arith)
 
 -- of an update, with all of it in the log
-pub record There (ed : Edition) (log : List ℕ) (at b c p : ℕ) : Type 0 where
-  pub here : nextAt ed log at ≡ next (updateOf log (at + markSize ed)) p
+pub record There (rule : AfterEnd) (ed : Edition) (log : List ℕ) (at b c p : ℕ) : Type 0 where
+  pub here : nextBy rule ed log at ≡ next (updateOf log (at + markSize ed)) p
   pub bucket : b ≡ le (block 8 log (at + markSize ed + 56 + 32 * c))
   pub plain : reserved (diffAt log (at + markSize ed)) ≡ false
   pub count : c ≡ countOf (diffAt log (at + markSize ed))
@@ -143,11 +165,11 @@ pub record There (ed : Edition) (log : List ℕ) (at b c p : ℕ) : Type 0 where
   pub after : p ≡ at + updateSize ed c
   pub within : at + updateSize ed c ≤ length log
 
-pub head-update : (ed : Edition) (log : List ℕ) (at b c p : ℕ) → anUpdate b c p ≡ headOf (nextAt ed log at) → There ed log at b c p
+pub head-update : (rule : AfterEnd) (ed : Edition) (log : List ℕ) (at b c p : ℕ) → anUpdate b c p ≡ headOf (nextBy rule ed log at) → There rule ed log at b c p
 unfolding updateOf
-head-update ed log at b c p h = go (nextAt ed log at) (stands ed log at) refl h
+head-update rule ed log at b c p h = go (nextBy rule ed log at) (stands rule ed log at) refl h
   where
-    go : (n : Next) → Stands ed log at n → nextAt ed log at ≡ n → anUpdate b c p ≡ headOf n → There ed log at b c p
+    go : (n : Next) → Stands ed log at n → nextBy rule ed log at ≡ n → anUpdate b c p ≡ headOf n → There rule ed log at b c p
     go n (a-clear l) i h = let z : _≡_ {A = ℕ} 0 1 = cc in absurd (omega arith)
     go n (an-update r l) i h =
         let e : c ≡ countOf (diffAt log (at + markSize ed)) = cc in
@@ -167,35 +189,42 @@ head-update ed log at b c p h = go (nextAt ed log at) (stands ed log at) refl h
 
 -- ---- the whole reading
 -- both ways read alike where an entry's rest does
-alike : (ed : Edition) (log : List ℕ) (at : ℕ) (f g : ℕ → Reading) → ((e : Entry) (p : ℕ) → nextAt ed log at ≡ next e p → f p ≡ g p) → (n : Next) → nextAt ed log at ≡ n → readOn n at f ≡ readOn n at g
-alike ed log at f g same (next e p) h = ap (andThen e) (same e p h)
-alike ed log at f g same ended h = refl
-alike ed log at f g same (stopped k) h = refl
+alike : (rule : AfterEnd) (ed : Edition) (log : List ℕ) (at : ℕ) (f g : ℕ → Reading) → ((e : Entry) (p : ℕ) → nextBy rule ed log at ≡ next e p → f p ≡ g p) → (n : Next) → nextBy rule ed log at ≡ n → readOn n at f ≡ readOn n at g
+alike rule ed log at f g same (next e p) h = ap (andThen e) (same e p h)
+alike rule ed log at f g same ended h = refl
+alike rule ed log at f g same (stopped k) h = refl
+
+past : (rule : AfterEnd) (ed : Edition) (log : List ℕ) (at : ℕ) → length log ≤ at → nextBy rule ed log at ≡ stopped 6
+past rule ed log at h = ap (onEnd (wanted rule log (at + markSize ed))) (next-past ed log at h) ∙ stays (wanted rule log (at + markSize ed))
+  where
+    stays : (t : Bool) → onEnd t (stopped 6) ≡ stopped 6
+    stays true = refl
+    stays false = refl
 
 -- fuel above the bytes that are left changes nothing
-pub read-enough : (ed : Edition) (f g : ℕ) (log : List ℕ) (at : ℕ) → length log ≤ at + f → length log ≤ at + g → readIn ed f log at ≡ readIn ed g log at
+pub read-enough : (rule : AfterEnd) (ed : Edition) (f g : ℕ) (log : List ℕ) (at : ℕ) → length log ≤ at + f → length log ≤ at + g → readIn rule ed f log at ≡ readIn rule ed g log at
 unfolding readBy
-read-enough ed zero zero log at p q = refl
-read-enough ed zero (suc g) log at p q =
-    let s = next-past ed log at (omega arith) in
-    ap (λ (n : Next). readOn n at (λ r. stopAt r (refused 6))) s ∙ sym (ap (λ (n : Next). readOn n at (λ r. readIn ed g log r)) s)
-read-enough ed (suc f) zero log at p q =
-    let s = next-past ed log at (omega arith) in
-    ap (λ (n : Next). readOn n at (λ r. readIn ed f log r)) s ∙ sym (ap (λ (n : Next). readOn n at (λ r. stopAt r (refused 6))) s)
-read-enough ed (suc f) (suc g) log at p q =
-    alike ed log at (λ r. readIn ed f log r) (λ r. readIn ed g log r) (λ e r h. let m = moves ed log at e r h in read-enough ed f g log r (omega arith) (omega arith)) (nextAt ed log at) refl
+read-enough rule ed zero zero log at p q = refl
+read-enough rule ed zero (suc g) log at p q =
+    let s = past rule ed log at (omega arith) in
+    ap (λ (n : Next). readOn n at (λ r. stopAt r (refused 6))) s ∙ sym (ap (λ (n : Next). readOn n at (λ r. readIn rule ed g log r)) s)
+read-enough rule ed (suc f) zero log at p q =
+    let s = past rule ed log at (omega arith) in
+    ap (λ (n : Next). readOn n at (λ r. readIn rule ed f log r)) s ∙ sym (ap (λ (n : Next). readOn n at (λ r. stopAt r (refused 6))) s)
+read-enough rule ed (suc f) (suc g) log at p q =
+    alike rule ed log at (λ r. readIn rule ed f log r) (λ r. readIn rule ed g log r) (λ e r h. let m = moves rule ed log at e r h in read-enough rule ed f g log r (omega arith) (omega arith)) (nextBy rule ed log at) refl
 
-read-by : (ed : Edition) (f : ℕ) (log : List ℕ) (at : ℕ) → length log ≤ at + f → readFrom ed log at ≡ readIn ed (suc f) log at
-read-by ed f log at h = read-enough ed (length log) (suc f) log at (omega arith) (omega arith)
+read-by : (rule : AfterEnd) (ed : Edition) (f : ℕ) (log : List ℕ) (at : ℕ) → length log ≤ at + f → readFrom rule ed log at ≡ readIn rule ed (suc f) log at
+read-by rule ed f log at h = read-enough rule ed (length log) (suc f) log at (omega arith) (omega arith)
 
-pub read-entry : (ed : Edition) (log : List ℕ) (at : ℕ) (e : Entry) (p : ℕ) → nextAt ed log at ≡ next e p → readFrom ed log at ≡ andThen e (readFrom ed log p)
+pub read-entry : (rule : AfterEnd) (ed : Edition) (log : List ℕ) (at : ℕ) (e : Entry) (p : ℕ) → nextBy rule ed log at ≡ next e p → readFrom rule ed log at ≡ andThen e (readFrom rule ed log p)
 unfolding readBy
-read-entry ed log at e p h = read-by ed (length log) log at (omega arith) ∙ ap (λ (n : Next). readOn n at (λ r. readIn ed (length log) log r)) h
+read-entry rule ed log at e p h = read-by rule ed (length log) log at (omega arith) ∙ ap (λ (n : Next). readOn n at (λ r. readIn rule ed (length log) log r)) h
 
-pub read-end : (ed : Edition) (log : List ℕ) (at : ℕ) → nextAt ed log at ≡ ended → readFrom ed log at ≡ stopAt at (given tt)
+pub read-end : (rule : AfterEnd) (ed : Edition) (log : List ℕ) (at : ℕ) → nextBy rule ed log at ≡ ended → readFrom rule ed log at ≡ stopAt at (given tt)
 unfolding readBy
-read-end ed log at h = read-by ed (length log) log at (omega arith) ∙ ap (λ (n : Next). readOn n at (λ r. readIn ed (length log) log r)) h
+read-end rule ed log at h = read-by rule ed (length log) log at (omega arith) ∙ ap (λ (n : Next). readOn n at (λ r. readIn rule ed (length log) log r)) h
 
-pub read-stop : (ed : Edition) (log : List ℕ) (at k : ℕ) → nextAt ed log at ≡ stopped k → readFrom ed log at ≡ stopAt at (refused k)
+pub read-stop : (rule : AfterEnd) (ed : Edition) (log : List ℕ) (at k : ℕ) → nextBy rule ed log at ≡ stopped k → readFrom rule ed log at ≡ stopAt at (refused k)
 unfolding readBy
-read-stop ed log at k h = read-by ed (length log) log at (omega arith) ∙ ap (λ (n : Next). readOn n at (λ r. readIn ed (length log) log r)) h
+read-stop rule ed log at k h = read-by rule ed (length log) log at (omega arith) ∙ ap (λ (n : Next). readOn n at (λ r. readIn rule ed (length log) log r)) h

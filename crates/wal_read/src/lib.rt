@@ -1,23 +1,26 @@
-// The read path of a log, as the original's wal/read.rs. `head_at` is the core: it takes a record
-// apart but for its nodes, and builds no table. `entry_at` gives the whole entry. Both take the log, its
-// edition and a position; `WalBlobReader` holds log and position, and what the log's start answered.
+// The read path of a log, as the original's wal/read.rs. `head_by` is the core: it takes a record
+// apart but for its nodes, and builds no table. `entry_by` gives the whole entry. Both take the log, its
+// edition, a position and what is wanted after end: zeros in `head_at` and `entry_at`, nothing in the calls whose
+// name ends with `_tolerant`. `WalBlobReader` holds log, position and that, and what the log's start answered.
 ghost use mathlib.Core.Path.{_≡_};
 ghost use Prim.Native.Nat.{_+_, _*_, _≤_};
 ghost use lib.ListN.{length};
 ghost use Rattle.answers.specs.Answers.{outcomeSaid, numberSaid};
 ghost use Rattle.blocks.specs.Blocks.{block};
 ghost use Rattle.page_diff.specs.Diff.{readAnswer, readWords};
-ghost use Rattle.wal.specs.Reader.{editionAt, startOf, seedOf, byTag, tagAt, nextAt, nodesFrom};
+ghost use Rattle.wal.specs.declared.AfterEnd.the-variants.{Zeros, Tolerant};
+ghost use Rattle.wal.specs.Reader.{ended, editionAt, startOf, seedOf, byTag, tagAt, wanted as afterEnd, nextBy, nodesFrom};
 ghost use Rattle.wal_read.specs.Head.{headOf, headSaid};
 ghost use Rattle.wal_read.specs.Entry.{Taken, rows};
 ghost use Rattle.wal_read.specs.InnerEntry.{Bare, tagSaid};
-ghost use Rattle.wal_read.specs.Set.{firstAt, givesAt, SetOn, Gives, Reads};
+ghost use Rattle.wal_read.specs.Set.{firstAt, givesAt, SetOn, asTolerant, Gives, Reads};
 use answers::Number;
 use answers::Outcome;
 use answers::Refusal;
 use page_diff::Diff;
 use page_diff::DiffAnswer;
 use page_diff::Packed;
+use wal::AfterEnd;
 use wal::Edition;
 
 // A record without its nodes: the bucket, the count of nodes, and the position after the record.
@@ -164,16 +167,47 @@ fn head_after(log: &[u8], body: usize, tag: u8) -> Head
     }
 }
 
-// The record at `at` without its nodes: its mark, and what is read after it. No sum wraps on a position that no call
-// answered.
-pub fn head_at(log: &[u8], at: usize, edition: Edition) -> Head
-    ensures { λ r. ⌜ headSaid r ≡ headOf (nextAt edition (now (log .entry)) at) ⌝ }
+// The record at `at` without its nodes, whatever follows end: its mark, and what is read after it. No sum wraps on a
+// position that no call answered.
+pub fn head_at_tolerant(log: &[u8], at: usize, edition: Edition) -> Head
+    ensures { λ r. ⌜ headSaid r ≡ headOf (nextBy Tolerant edition (now (log .entry)) at) ⌝ }
 {
     let found = tag_at(log, at, edition);
     match found {
         Tag::Is(tag) => head_after(log, at + wal::mark_size(edition), tag),
         Tag::Refused(why) => Head::Refused(why),
     }
+}
+
+// Whether what stands from `from` on, after the mark of end, is what is wanted there. It is read once.
+fn wanted(log: &[u8], from: usize, rule: AfterEnd) -> bool
+    ensures { λ r. ⌜ r ≡ afterEnd rule (now (log .entry)) from ⌝ }
+{
+    match rule {
+        AfterEnd::Zeros => blocks::zeros_from(log, from),
+        AfterEnd::Tolerant => true,
+    }
+}
+
+// The record at `at` without its nodes, by what is wanted after end: 27 in place of end.
+pub fn head_by(log: &[u8], at: usize, edition: Edition, rule: AfterEnd) -> Head
+    ensures { λ r. ⌜ headSaid r ≡ headOf (nextBy rule edition (now (log .entry)) at) ⌝ }
+{
+    let head = head_at_tolerant(log, at, edition);
+    let Head::End = head else {
+        return head;
+    };
+    if wanted(log, at + wal::mark_size(edition), rule) {
+        return Head::End;
+    }
+    Head::Refused(Refusal::AfterEndUsed)
+}
+
+// The same, with zeros wanted after end.
+pub fn head_at(log: &[u8], at: usize, edition: Edition) -> Head
+    ensures { λ r. ⌜ headSaid r ≡ headOf (nextBy Zeros edition (now (log .entry)) at) ⌝ }
+{
+    head_by(log, at, edition, AfterEnd::Zeros)
 }
 
 // The table of `count` nodes that stand in the log from `from` on, zeros after them.
@@ -209,11 +243,11 @@ fn bare(what: What, next: usize) -> WalEntry
     }
 }
 
-// The entry at `at`. At the end and on a refusal `next` is `at` itself.
-pub fn entry_at(log: &[u8], at: usize, edition: Edition) -> WalEntry
-    ensures { λ e. ⌜ Taken (nextAt edition (now (log .entry)) at) at e ⌝ }
+// The entry at `at`, by what is wanted after end. At the end and on a refusal `next` is `at` itself.
+pub fn entry_by(log: &[u8], at: usize, edition: Edition, rule: AfterEnd) -> WalEntry
+    ensures { λ e. ⌜ Taken (nextBy rule edition (now (log .entry)) at) at e ⌝ }
 {
-    let head = head_at(log, at, edition);
+    let head = head_by(log, at, edition, rule);
     match head {
         Head::Clear { bucket, next } => bare(What::Clear(bucket), next),
         Head::Update {
@@ -241,22 +275,45 @@ pub fn entry_at(log: &[u8], at: usize, edition: Edition) -> WalEntry
     }
 }
 
-// What a reader whose start was answered so gives at `at`: the entry there, by the log's own edition, or the
-// start's refusal again.
-pub fn entry_set(log: &[u8], at: usize, start: Number) -> WalEntry
-    ensures { λ e. ⌜ Taken (givesAt (numberSaid start) (now (log .entry)) at) at e ⌝ }
+// The entry of an end at `at`.
+pub fn end_at(at: usize) -> WalEntry
+    ensures { λ e. ⌜ Taken ended at e ⌝ }
+{
+    bare(What::End, at)
+}
+
+// The entry at `at`; zeros are wanted after end.
+pub fn entry_at(log: &[u8], at: usize, edition: Edition) -> WalEntry
+    ensures { λ e. ⌜ Taken (nextBy Zeros edition (now (log .entry)) at) at e ⌝ }
+{
+    entry_by(log, at, edition, AfterEnd::Zeros)
+}
+
+// The entry at `at`, whatever follows end.
+pub fn entry_at_tolerant(log: &[u8], at: usize, edition: Edition) -> WalEntry
+    ensures { λ e. ⌜ Taken (nextBy Tolerant edition (now (log .entry)) at) at e ⌝ }
+{
+    entry_by(log, at, edition, AfterEnd::Tolerant)
+}
+
+// What a reader whose start was answered so gives at `at`: the entry there, by the log's own edition and by what is
+// wanted after end, or the start's refusal again.
+pub fn entry_set(log: &[u8], at: usize, start: Number, rule: AfterEnd) -> WalEntry
+    ensures { λ e. ⌜ Taken (givesAt rule (numberSaid start) (now (log .entry)) at) at e ⌝ }
 {
     match start {
-        Number::Is(_) => entry_at(log, at, edition_of(log)),
+        Number::Is(_) => entry_by(log, at, edition_of(log), rule),
         Number::Refused(why) => bare(What::Refused(why), at),
     }
 }
 
-// A reader set on a log: the log, the position of the next entry, and what the start answered.
+// A reader set on a log: the log, the position of the next entry, what the start answered, and what is wanted after
+// end.
 pub struct WalBlobReader<'a> {
     pub log: &'a [u8],
     pub at: usize,
     pub start: Number,
+    pub rule: AfterEnd,
 }
 
 // Where the first entry of a log stands.
@@ -266,14 +323,31 @@ pub fn first_at(log: &[u8]) -> usize
     wal::start_size(edition_of(log))
 }
 
-// Sets a reader on a log: it reads the start, and stands before the first entry. Where the start is
-// refused, each call on the reader is refused so.
+// Sets a reader on a log: it reads the start, stands before the first entry, and wants zeros after end. Where the
+// start is refused, each call on the reader is refused so.
 pub fn new<'a>(log: &'a [u8]) -> WalBlobReader<'a>
-    ensures { λ r. ⌜ SetOn (log .entry) r ⌝ }
+    ensures { λ r. ⌜ SetOn Zeros (log .entry) r ⌝ }
 {
     let start = set(log);
     let at = first_at(log);
-    WalBlobReader { log, at, start }
+    WalBlobReader {
+        log,
+        at,
+        start,
+        rule: AfterEnd::Zeros,
+    }
+}
+
+// The same reader with the former rule: it takes whatever follows end.
+pub fn tolerant<'a>(r: WalBlobReader<'a>) -> WalBlobReader<'a>
+    ensures { λ t. ⌜ t ≡ asTolerant (r .entry) ⌝ }
+{
+    WalBlobReader {
+        log: r.log,
+        at: r.at,
+        start: r.start,
+        rule: AfterEnd::Tolerant,
+    }
 }
 
 // The sync number that the start gave, or its refusal.
@@ -287,7 +361,7 @@ pub fn sync_seqn<'a>(r: WalBlobReader<'a>) -> Number
 pub fn peek<'a>(r: WalBlobReader<'a>) -> WalEntry
     ensures { λ e. ⌜ Gives (r .entry) e ⌝ }
 {
-    entry_set(r.log, r.at, r.start)
+    entry_set(r.log, r.at, r.start, r.rule)
 }
 
 // The same, and the reader moves on; at the end and on a refusal it stays.

@@ -15,6 +15,7 @@ use Rattle.wal.specs.Log.{Entry, clear, update, editionOne, recordOf, recordsOf
 use Rattle.wal.specs.Reader.{readLog}
 use Rattle.wal.specs.Run.{Wide, Rows, Run}
 use Rattle.wal.specs.Writer.{openAt, beginAnswer, beginLog, clearAnswer, updateAnswer, finishAnswer, finishLog}
+use Rattle.wal.specs.declared.AfterEnd.{AfterEnd}
 use Rattle.wal.specs.declared.Edition.the-variants.{One}
 use Rattle.wal.specs.declared.Start.{Start}
 use Rattle.wal.specs.declared.Writer.the-variants.{Fresh, Finished}
@@ -106,7 +107,7 @@ pub four-calls : Run slice start (openAt One 272) log₄ (clear 3 ∷ updated �
 four-calls = after-page-update slice start (openAt One 143) log₃ (clear 3 ∷ updated ∷ []) three-calls (done 272) log₄ id words page 9 pages refl
 
 -- and what they made reads back
-pub four-read-back : readLog (take 4096 (finishLog log₄ (openAt One 272))) ≡ record { entries = clear 3 ∷ updated ∷ pageUpdate id words page 9 ∷ []; at = 272; stop = given tt }
+pub four-read-back : (rule : AfterEnd) → readLog rule (take 4096 (finishLog log₄ (openAt One 272))) ≡ record { entries = clear 3 ∷ updated ∷ pageUpdate id words page 9 ∷ []; at = 272; stop = given tt }
 unfolding recordsOf recordOf flat block slotsBelow marked digit
-four-read-back =
-    reads-back slice start (openAt One 272) log₄ (clear 3 ∷ updated ∷ pageUpdate id words page 9 ∷ []) four-calls (record { answer = num.Is 4096; writer = Finished 4096 }) (finishLog log₄ (openAt One 272)) finishes
+four-read-back rule =
+    reads-back slice start (openAt One 272) log₄ (clear 3 ∷ updated ∷ pageUpdate id words page 9 ∷ []) four-calls (record { answer = num.Is 4096; writer = Finished 4096 }) (finishLog log₄ (openAt One 272)) finishes rule

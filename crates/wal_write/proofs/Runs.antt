@@ -9,6 +9,7 @@ use Rattle.answers.specs.Answers.{given, accepted, outcomeSaid, numberSaid}
 use Rattle.wal.specs.Log.{Entry, clear, update, finishedLength}
 use Rattle.wal.specs.Reader.{editionAt, startOf, seedOf, readLog}
 use Rattle.wal.specs.Run.{Run, begun, with-clear, endOf, logOf}
+use Rattle.wal.specs.declared.AfterEnd.{AfterEnd}
 use Rattle.wal.specs.declared.Edition.the-variants.{Two}
 use Rattle.wal.specs.declared.Start.{Start}
 use Rattle.wal.specs.declared.Writer.{Writer}
@@ -64,5 +65,6 @@ module _ (log₀ : List ℕ) (start : Start) (w : Writer) (log : List ℕ) (es :
     pub reads-seed : start .edition ≡ Two → seedOf (take len out) ≡ start .seed
     reads-seed two = ap seedOf whole-log ∙ seed-back start es (run-made log₀ start run .wide) two
 
-    pub reads-back : readLog (take len out) ≡ record { entries = es; at = endOf start es; stop = given tt }
-    reads-back = ap (λ (l : List ℕ). readLog (take len l)) (p .1 .1) ∙ round-trip log₀ start w log es run
+    -- by a reader that wants zeros after end, and by a tolerant one
+    pub reads-back : (rule : AfterEnd) → readLog rule (take len out) ≡ record { entries = es; at = endOf start es; stop = given tt }
+    reads-back rule = ap (λ (l : List ℕ). readLog rule (take len l)) (p .1 .1) ∙ round-trip log₀ start w log es run rule

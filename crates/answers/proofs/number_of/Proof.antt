@@ -80,6 +80,9 @@ enum-told-24 c = search needs
 enum-told-25 : tie.Need-enum-told-25
 enum-told-25 c = search needs
 
+enum-told-26 : tie.Need-enum-told-26
+enum-told-26 c = search needs
+
 returns : tie.Need-returns
 returns c = sym (ap numberOf (c .enum-told .given .1))
 
@@ -155,6 +158,9 @@ returns-24 c = sym (ap numberOf (c .enum-told24 .given .1))
 returns-25 : tie.Need-returns-25
 returns-25 c = sym (ap numberOf (c .enum-told25 .given .1))
 
+returns-26 : tie.Need-returns-26
+returns-26 c = sym (ap numberOf (c .enum-told26 .given .1))
+
 pub number-of-spec : {M : Type 1} → statement M
 number-of-spec =
     tie.close
@@ -184,6 +190,7 @@ number-of-spec =
     enum-told-23
     enum-told-24
     enum-told-25
+    enum-told-26
     returns
     returns-2
     returns-3
@@ -208,4 +215,5 @@ number-of-spec =
     returns-22
     returns-23
     returns-24
-    returns-25)
+    returns-25
+    returns-26)

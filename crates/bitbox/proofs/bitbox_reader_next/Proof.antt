@@ -1,9 +1,11 @@
--- Field by field. Assumes nothing.
-use mathlib.Core.Path.{ap, _∙_, subst}
-use Rattle.wal.specs.Reader.{nextAt}
+-- The entry, in words. Assumes nothing.
+use mathlib.Core.Path.{subst}
+use Rattle.wal.specs.Reader.{nextBy}
+use Rattle.wal.specs.declared.AfterEnd.the-variants.{Zeros}
 use Rattle.wal.specs.declared.Edition.{Edition}
 use Rattle.wal_read.specs.Entry.{Taken}
-use Rattle.bitbox.specs.Words.{entryRefusal, entryKind, entryBucket}
+use Rattle.numbers.specs.Numbers.{editionOf}
+use Rattle.bitbox.proofs.WordLaws.{worded-read}
 use borrow.Author.Needs.{needs}
 use Rattle.bitbox.proofs.bitbox_reader_next.Statement.{statement}
 use Rattle.bitbox.proofs.bitbox_reader_next.Tie as tie
@@ -14,29 +16,15 @@ edition-of-requires c κs = search needs
 entry-at-requires : tie.Need-entry-at-requires
 entry-at-requires c κs = search needs
 
-entry-refusal-requires : tie.Need-entry-refusal-requires
-entry-refusal-requires c κs = search needs
-
-entry-kind-requires : tie.Need-entry-kind-requires
-entry-kind-requires c κs = search needs
-
-entry-bucket-requires : tie.Need-entry-bucket-requires
-entry-bucket-requires c κs = search needs
+of-entry-requires : tie.Need-of-entry-requires
+of-entry-requires c κs = search needs
 
 returns : tie.Need-returns
 returns c =
-    let args = c .before .before .before .before .before .before .before .before .before .before .args in
-    let at-entry = c .before .before .before .before .before .before .before in
-    let e = subst (λ (ed : Edition). Taken (nextAt ed (args .log .now) (args .at)) (args .at) (at-entry .entry-at .result)) (at-entry .before .edition-of .ensures) (at-entry .entry-at .ensures) in
-    record { refusal-is = c .before .before .entry-refusal .ensures ∙ ap entryRefusal (e .what-is); kind-is = c .before .entry-kind .ensures ∙ ap entryKind (e .what-is); bucket-is = c .entry-bucket .ensures ∙ ap entryBucket (e .what-is); next-is = e .next-is; id-is = e .id-is; diff-is = e .diff-is; packed-is = e .packed-is; elided-is = e .elided-is }
+    let read = c .before in
+    let args = read .before .before .before .args in
+    worded-read (nextBy Zeros (editionOf (args .edition)) (args .log .now) (args .at)) (args .at) (read .entry-at .result) (c .of-entry .result)
+    (subst (λ (ed : Edition). Taken (nextBy Zeros ed (args .log .now) (args .at)) (args .at) (read .entry-at .result)) (read .before .edition-of .ensures) (read .entry-at .ensures)) (c .of-entry .ensures)
 
 pub bitbox-reader-next-spec : {M : Type 1} → statement M
-bitbox-reader-next-spec =
-    tie.close
-    (tie.spec
-    edition-of-requires
-    entry-at-requires
-    entry-refusal-requires
-    entry-kind-requires
-    entry-bucket-requires
-    returns)
+bitbox-reader-next-spec = tie.close (tie.spec edition-of-requires entry-at-requires of-entry-requires returns)

@@ -45,6 +45,7 @@ use denote.Triple.Walked.{says, Stays, stay-none-slice, walkOf, goes-none-slice,
 use denote.Exit.{yes}
 use denote.Triple.Clauses.{Lasts, ensured, lasts}
 use Rattle.wal.specs.Reader.{startOf}
+use Rattle.wal.specs.declared.AfterEnd.the-variants.{Zeros}
 use Rattle.wal_read.specs.Entry.{nextOf, Taken}
 use Rattle.wal_read.specs.Set.{firstAt, givesAt, SetOn, Reads}
 use Rattle.wal_read.specs.declared.WalBlobReader.{WalBlobReader}
@@ -105,7 +106,7 @@ module _ {M : Type 1} (𝓤 : URA M) (H : Heap 𝓤) (A : Atoms 𝓤) (W : Given
 
   -- what is shown of the answer
   abbrev Said : WalEntry → Type 0
-  Said e = Taken (givesAt (startOf (now s)) (now s) (nextOf (givesAt (startOf (now s)) (now s) (firstAt (now s))) (firstAt (now s)))) (nextOf (givesAt (startOf (now s)) (now s) (firstAt (now s))) (firstAt (now s))) e
+  Said e = Taken (givesAt Zeros (startOf (now s)) (now s) (nextOf (givesAt Zeros (startOf (now s)) (now s) (firstAt (now s))) (firstAt (now s)))) (nextOf (givesAt Zeros (startOf (now s)) (now s) (firstAt (now s))) (firstAt (now s))) e
 
   -- the halves of the log's token
   abbrev qL : Share
@@ -124,8 +125,8 @@ module _ {M : Type 1} (𝓤 : URA M) (H : Heap 𝓤) (A : Atoms 𝓤) (W : Given
       move ! (1 ∷ []) $ fsplit ! $ use1 W (‵ Own ⊛ ‵ Own) (shr-slice-copy 𝓤 H A W (named 0) κ u8 .twice s (v ∷ [])) $ split ! $
       move ! (0 ∷ 2 ∷ []) $ fjoin ! $ move ! (2 ∷ 0 ∷ []) $ use2 W (raw (New 𝓤 H A mem-at run .pre to-new)) (qed W ((‵ (flft κ q) ⊛ ‵ ftrue) ∷ ‵ (owns (ShrSlice (named 0) κ u8 ∷ []) (s, tt) (v ∷ [], tt)) ∷ []) ∵ join ! $ frame ! $ done !) $ frame ! $ done !
 
-  new-said : (r : WalBlobReader) → ent 𝓤 (ensured 𝓤 H A new.ended (new.clauses 𝓤 H A mem-at run) (κ, tt) (s, tt) tt r) (fact 𝓤 (SetOn s r))
-  new-said r = exE 𝓤 _ (λ ws. snd∗ 𝓤 (sem 𝓤 H A (lasts new.ended (κ, tt) (s, tt) ws)) (fact 𝓤 (SetOn s r)))
+  new-said : (r : WalBlobReader) → ent 𝓤 (ensured 𝓤 H A new.ended (new.clauses 𝓤 H A mem-at run) (κ, tt) (s, tt) tt r) (fact 𝓤 (SetOn Zeros s r))
+  new-said r = exE 𝓤 _ (λ ws. snd∗ 𝓤 (sem 𝓤 H A (lasts new.ended (κ, tt) (s, tt) ws)) (fact 𝓤 (SetOn Zeros s r)))
 
   -- ---- the reader in its local, as a value of its type in memory, and back to room
   goes-in : (l : ℕ) (r : WalBlobReader) (u : Val) → ent 𝓤 (sep 𝓤 (sem 𝓤 H A (fat fullShare τ l 0 u)) (sem 𝓤 H A (B .own r (u ∷ [])))) (sem 𝓤 H A (partAt R fullShare r l 0))
@@ -180,7 +181,7 @@ module _ {M : Type 1} (𝓤 : URA M) (H : Heap 𝓤) (A : Atoms 𝓤) (W : Given
         move ! (14 ∷ []) $ use1 W (raw (New 𝓤 H A mem-at run .pre to-new) ⊛ ‵ Own) goes-new $ split ! $
         calls-at ! fm (New 𝓤 H A mem-at run) known-new to-new (and-then ! (load ! (from ! (stop !)) (look ! 12 refl)) (no-more !)) (λ u.
         use1 W (later (some (λ (r : WalBlobReader). ((‵ (flft κ q) ⊛ ‵ ftrue) ⊛ ‵ (B .own r (u ∷ []))) ⊛ raw (ensured 𝓤 H A new.ended (new.clauses 𝓤 H A mem-at run) (κ, tt) (s, tt) tt r)))) (id⊢ 𝓤 _) $ await ! tt $ pick ! (λ r.
-        split ! $ move ! (1 ∷ []) $ use1 W (raw (fact 𝓤 (SetOn s r))) (new-said r) $ heard ! (SetOn s r) (λ set. split ! $ move ! (1 ∷ []) $
+        split ! $ move ! (1 ∷ []) $ use1 W (raw (fact 𝓤 (SetOn Zeros s r))) (new-said r) $ heard ! (SetOn Zeros s r) (λ set. split ! $ move ! (1 ∷ []) $
         -- [what the reader owns; the token; what log owns; room for _6; …; room for _5; …; room for _4; …; room for _3; …; room for _2; …; _1; …; room for _0; …]
         peeks ! B (Is B) (shows 𝓤 H A B) r (u ∷ []) (λ is.
         land ! (from ! (stop !)) (init ! 9 refl (LL.lawful (T.the-type αᵉ) (T′.the-laws αᵉ) 𝓤 H A W .typed r _ is .0)) $
@@ -222,7 +223,7 @@ module _ {M : Type 1} (𝓤 : URA M) (H : Heap 𝓤) (A : Atoms 𝓤) (W : Given
         -- [what the answer owns; the token; what log owns; room for _2; _6; …; _5; …; _4; …; _3; …; end of _2; _1; …; _0; …]
         returns ! (look ! 15 refl) $ forget ! 4 refl $ forget ! 6 refl $ forget ! 8 refl $ forget ! 10 refl $ forget ! 13 refl $ forget ! 15 refl $
         move ! (15 ∷ 16 ∷ []) $ free1 ! $ move ! (13 ∷ 14 ∷ []) $ free1 ! $ move ! (3 ∷ 12 ∷ []) $ free1 ! $ move ! (9 ∷ 10 ∷ []) $ free1 ! $ move ! (7 ∷ 8 ∷ []) $ free1 ! $ move ! (5 ∷ 6 ∷ []) $ free1 ! $ move ! (3 ∷ 4 ∷ []) $ free1 ! $ free0 ! $
-        by ! (exits e x (second-gives s r (zs .0) (ys .0) d e set first second)))))))))))))))))))))))))))
+        by ! (exits e x (second-gives Zeros s r (zs .0) (ys .0) d e set first second)))))))))))))))))))))))))))
 
 module _ {M : Type 1} (𝓤 : URA M) (H : Heap 𝓤) (A : Atoms 𝓤) (W : Given 𝓤 H A) (mem-at : Memory → SProp 𝓤) (run : Routine → Fun 𝓤) where
   again-walks : (C : Calls 𝓤 H) (Λ : Loops 𝓤 H) → FmC 𝓤 H (W .laws) C → Triple 𝓤 (C #wal_read·new) (New 𝓤 H A mem-at run) → Triple 𝓤 (C #wal_read·read-entry) (Read 𝓤 H A mem-at run)

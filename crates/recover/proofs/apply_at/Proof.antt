@@ -15,7 +15,7 @@ use Rattle.ht_file.proofs.Laws.{image-fits-facts, start-is}
 use Rattle.meta_map.specs.Tags.{fullTag}
 use Rattle.page_diff.specs.Diff.{countOf, reserved}
 use Rattle.wal.specs.Log.{Entry, clear, markSize}
-use Rattle.wal.specs.Reader.{next, nextAt, diffAt, nodesFrom, updateOf}
+use Rattle.wal.specs.Reader.{next, nextBy, diffAt, nodesFrom, updateOf}
 use Rattle.wal_read.specs.Head.{headSaid}
 use Rattle.wal_read.proofs.ReadLaws.{There, head-clear, head-update}
 use Rattle.recover.specs.Places.{pageNamed, pageGives, pageAfter, stepped}
@@ -37,8 +37,8 @@ module _ (c : tie.After-known-told) where
   abbrev clearing : tie.Start
   clearing = c .before .before .before .before .before .before
 
-  is-clear : nextAt (clearing .args .edition) (clearing .args .log .now) (clearing .args .at) ≡ next (clear (c .before .head .given .0 .0)) (c .before .head .given .0 .1 .0)
-  is-clear = head-clear _ _ _ (sym (ap headSaid (c .before .head .given .1)) ∙ c .before .before .before .head-at .ensures)
+  is-clear : nextBy (clearing .args .rule) (clearing .args .edition) (clearing .args .log .now) (clearing .args .at) ≡ next (clear (c .before .head .given .0 .0)) (c .before .head .given .0 .1 .0)
+  is-clear = head-clear _ _ _ (sym (ap headSaid (c .before .head .given .1)) ∙ c .before .before .before .head-by .ensures)
 
 -- the head is an update: so stands an update there, all of it
 module _ (c : tie.After-known-told2) where
@@ -54,8 +54,8 @@ module _ (c : tie.After-known-told2) where
   abbrev after : ℕ
   after = c .before .head2 .given .0 .1 .1 .0
 
-  there : There (updating .args .edition) (updating .args .log .now) (updating .args .at) bucket count after
-  there = head-update _ _ _ _ _ _ (sym (ap headSaid (c .before .head2 .given .1)) ∙ c .before .before .before .before .head-at .ensures)
+  there : There (updating .args .rule) (updating .args .edition) (updating .args .log .now) (updating .args .at) bucket count after
+  there = head-update _ _ _ _ _ _ _ (sym (ap headSaid (c .before .head2 .given .1)) ∙ c .before .before .before .before .head-by .ensures)
 
   -- where its body stands
   abbrev body : ℕ
@@ -121,8 +121,8 @@ module _ (c : tie.After-page-start) where
   size : start + 4096 - start ≡ 4096
   size = omega arith
 
-head-at-requires : tie.Need-head-at-requires
-head-at-requires c κs = search needs
+head-by-requires : tie.Need-head-by-requires
+head-by-requires c κs = search needs
 
 enum-known-head : tie.Need-enum-known-head
 enum-known-head c = search needs
@@ -132,7 +132,7 @@ returns c =
     let t = c .before in
     let s = clearing t in
     let a = s .args in
-    step-outside (a .n) (a .image .now) (a .edition) (a .log .now) (a .at) (a .hash) (s .pre) (clear (t .before .head .given .0 .0)) (t .before .head .given .0 .1 .0) (is-clear t) (c .if1 .taken)
+    step-outside (a .rule) (a .n) (a .image .now) (a .edition) (a .log .now) (a .at) (a .hash) (s .pre) (clear (t .before .head .given .0 .0)) (t .before .head .given .0 .1 .0) (is-clear t) (c .if1 .taken)
 
 add-write-tag : tie.Need-add-write-tag
 add-write-tag c = search needs
@@ -162,7 +162,7 @@ returns-2 c =
     let b = t .before .head .given .0 .0 in
     let f = facts (a .n) (a .image .now) (s .pre) in
     let l : b < length (a .image .now) = omega (arith, f .2, past .if1 .left) in
-    let taken = step-taken (a .n) (a .image .now) (a .edition) (a .log .now) (a .at) (a .hash) (s .pre) (clear b) (t .before .head .given .0 .1 .0) (is-clear t) (past .if1 .left) in (
+    let taken = step-taken (a .rule) (a .n) (a .image .now) (a .edition) (a .log .now) (a .at) (a .hash) (s .pre) (clear b) (t .before .head .given .0 .1 .0) (is-clear t) (past .if1 .left) in (
       taken .0,
       ap (putMid b (b + 1 - b) (a .image .now)) (called .write-tag .ensures)
           ∙ part-put b (b + 1) (a .image .now) (0x7F ∷ []) (omega arith) (omega arith) (omega arith)
@@ -181,7 +181,7 @@ returns-3 c =
     let read = stop .before .before in
     let s = read .before .before .before in
     let a = s .args in
-    let out = step-stop (a .n) (a .image .now) (a .edition) (a .log .now) (a .at) (a .hash) (s .pre) (read .head-at .result) (read .head-at .ensures) (stop .before .match .keys2) (stop .match2 .keys2) in
+    let out = step-stop (a .rule) (a .n) (a .image .now) (a .edition) (a .log .now) (a .at) (a .hash) (s .pre) (read .head-by .result) (read .head-by .ensures) (stop .before .match .keys2) (stop .match2 .keys2) in
     (c .stopped-step .ensures ∙ out .0, out .1)
 
 returns-4 : tie.Need-returns-4
@@ -189,8 +189,8 @@ returns-4 c =
     let t = c .before in
     let s = updating t in
     let a = s .args in
-    step-outside (a .n) (a .image .now) (a .edition) (a .log .now) (a .at) (a .hash) (s .pre) (updateOf (a .log .now) (body t)) (after t) (there t .here)
-    (subst (λ (b : ℕ). a .n ≤ b) (sym (there-bucket (a .edition) (a .log .now) (a .at) (bucket t) (count t) (after t) (there t))) (c .if2 .taken))
+    step-outside (a .rule) (a .n) (a .image .now) (a .edition) (a .log .now) (a .at) (a .hash) (s .pre) (updateOf (a .log .now) (body t)) (after t) (there t .here)
+    (subst (λ (b : ℕ). a .n ≤ b) (sym (there-bucket (a .rule) (a .edition) (a .log .now) (a .at) (bucket t) (count t) (after t) (there t))) (c .if2 .taken))
 
 add-write-tag-2 : tie.Need-add-write-tag-2
 add-write-tag-2 c = search needs
@@ -268,8 +268,8 @@ returns-5 c =
     let el = block 8 log (p + 48 + 32 * m) in
     let first = putMid (b (written k)) (b (written k) + 1 - b (written k)) (image e) (written k .write-tag2 .last .0) in
     let page = take 4096 (drop a (tag-set e)) in
-    let within : bucketOf (updateOf log p) < args .n = subst (λ (x : ℕ). x < args .n) (sym (there-bucket (args .edition) log (args .at) (bucket t) m (after t) (there t))) (inside e) in
-    let taken = step-taken (args .n) (args .image .now) (args .edition) log (args .at) (args .hash) (s .pre) (updateOf log p) (after t) (there t .here) within in
+    let within : bucketOf (updateOf log p) < args .n = subst (λ (x : ℕ). x < args .n) (sym (there-bucket (args .rule) (args .edition) log (args .at) (bucket t) m (after t) (there t))) (inside e) in
+    let taken = step-taken (args .rule) (args .n) (args .image .now) (args .edition) log (args .at) (args .hash) (s .pre) (updateOf log p) (after t) (there t .here) within in
     let was : take (k .page-start .result + 4096 - k .page-start .result) (drop (k .page-start .result) first) ≡ page =
     ap (λ (x : ℕ). take (x + 4096 - x) (drop x first)) (start-here k) ∙ ap₂ (λ (x : ℕ) (l : List ℕ). take x (drop a l)) (size k) (tagged (written k)) in
     let made : applied .apply-page .last .0 ≡ pageAfter id ws ns el page =
@@ -281,14 +281,14 @@ returns-5 c =
           ∙ part-put a (a + 4096) (tag-set e) (pageAfter id ws ns el page) (omega arith) (omega (arith, page-fits e, length-set (image e) (bucket t) (fullTag (args .hash))))
           (tabulate-length (λ o. cond (pageNamed ws o) (pageGives id ws ns el o) (getD page o 0)) 4096 ∙ sym same)
           ∙ update-image (args .n) id ws ns el (bucket t) (args .hash) (args .image .now) (bounds e .2) (inside e)
-          ∙ ap (λ (x : Entry). stepped (args .n) (record { entry = x; hash = args .hash }) (args .image .now)) (sym (there-entry (args .edition) log (args .at) (bucket t) m (after t) (there t))) ∙ taken .1,
+          ∙ ap (λ (x : Entry). stepped (args .n) (record { entry = x; hash = args .hash }) (args .image .now)) (sym (there-entry (args .rule) (args .edition) log (args .at) (bucket t) m (after t) (there t))) ∙ taken .1,
     )
 
 pub apply-at-spec : {M : Type 1} → statement M
 apply-at-spec =
     tie.close
     (tie.spec
-    head-at-requires
+    head-by-requires
     enum-known-head
     returns
     add-write-tag

@@ -6,7 +6,8 @@ use native.Mathlib.Omega.{arith}
 use lib.ListN.{length}
 use borrow.Author.Needs.{needs}
 use Rattle.wal.specs.Log.{clear, markSize, startSize}
-use Rattle.wal.specs.Reader.{next, editionAt, nextAt, updateOf}
+use Rattle.wal.specs.Reader.{next, editionAt, nextBy, updateOf}
+use Rattle.wal.specs.declared.AfterEnd.{AfterEnd}
 use Rattle.wal.specs.declared.Edition.{Edition}
 use Rattle.wal.proofs.Records.{mark-some}
 use Rattle.wal_read.specs.Head.{headOf, headSaid}
@@ -16,10 +17,10 @@ use Rattle.recover.proofs.check_log.Statement.{statement}
 use Rattle.recover.proofs.check_log.Tie as tie
 
 abbrev Inv-loop : tie.InvT-loop
-Inv-loop log n hashes edition at₀ updates₀ at updates = (edition ≡ editionAt log) × CheckState n log at updates
+Inv-loop log n hashes rule edition at₀ updates₀ at updates = (edition ≡ editionAt log) × CheckState rule n log at updates
 
 abbrev μ-loop : tie.MeasureT-loop
-μ-loop log n hashes edition at₀ updates₀ at updates = length log - at
+μ-loop log n hashes rule edition at₀ updates₀ at updates = length log - at
 
 -- where the loop is
 module _ (c : tie.At-loop Inv-loop μ-loop) where
@@ -32,6 +33,9 @@ module _ (c : tie.At-loop Inv-loop μ-loop) where
   abbrev n : ℕ
   n = start .args .n
 
+  abbrev rule : AfterEnd
+  rule = start .args .rule
+
   abbrev at : ℕ
   at = c .loop .at
 
@@ -43,10 +47,10 @@ module _ (c : tie.After-known-told Inv-loop μ-loop) where
   abbrev clear-loop : tie.At-loop Inv-loop μ-loop
   clear-loop = c .before .before .before .before
 
-  cleared : nextAt (editionAt (log clear-loop)) (log clear-loop) (at clear-loop) ≡ next (clear (c .before .head .given .0 .0)) (c .before .head .given .0 .1 .0)
+  cleared : nextBy (rule clear-loop) (editionAt (log clear-loop)) (log clear-loop) (at clear-loop) ≡ next (clear (c .before .head .given .0 .0)) (c .before .head .given .0 .1 .0)
   cleared =
-      sym (ap (λ (e : Edition). nextAt e (log clear-loop) (at clear-loop)) (clear-loop .loop .inv .0))
-      ∙ head-clear _ _ _ (sym (ap headSaid (c .before .head .given .1)) ∙ c .before .before .before .head-at .ensures)
+      sym (ap (λ (e : Edition). nextBy (rule clear-loop) e (log clear-loop) (at clear-loop)) (clear-loop .loop .inv .0))
+      ∙ head-clear _ _ _ (sym (ap headSaid (c .before .head .given .1)) ∙ c .before .before .before .head-by .ensures)
 
 -- the head is an update: so stands an update there, all of it
 module _ (c : tie.After-known-told2 Inv-loop μ-loop) where
@@ -65,11 +69,11 @@ module _ (c : tie.After-known-told2 Inv-loop μ-loop) where
   abbrev ed : Edition
   ed = editionAt (log update-loop)
 
-  there : There (editionAt (log update-loop)) (log update-loop) (at update-loop) bucket count after
+  there : There (rule update-loop) (editionAt (log update-loop)) (log update-loop) (at update-loop) bucket count after
   there =
-      head-update _ _ _ _ _ _
-      (sym (ap headSaid (c .before .head2 .given .1)) ∙ c .before .before .before .before .head-at .ensures
-      ∙ ap (λ (e : Edition). headOf (nextAt e (log update-loop) (at update-loop))) (update-loop .loop .inv .0))
+      head-update _ _ _ _ _ _ _
+      (sym (ap headSaid (c .before .head2 .given .1)) ∙ c .before .before .before .before .head-by .ensures
+      ∙ ap (λ (e : Edition). headOf (nextBy (rule update-loop) e (log update-loop) (at update-loop))) (update-loop .loop .inv .0))
 
 edition-of-requires : tie.Need-edition-of-requires Inv-loop μ-loop
 edition-of-requires c κs = search needs
@@ -82,10 +86,10 @@ loop-holds c =
     let read = c .before in
     let args = read .before .before .args in
     let first : c .start-size .result ≡ startSize (editionAt (args .log .now)) = c .start-size .ensures ∙ ap startSize (read .edition-of .ensures) in
-    (read .edition-of .ensures, subst (λ (p : ℕ). CheckState (args .n) (args .log .now) p 0) (sym first) (check-start (args .n) (args .log .now)))
+    (read .edition-of .ensures, subst (λ (p : ℕ). CheckState (args .rule) (args .n) (args .log .now) p 0) (sym first) (check-start (args .rule) (args .n) (args .log .now)))
 
-head-at-requires : tie.Need-head-at-requires Inv-loop μ-loop
-head-at-requires c κs = tt
+head-by-requires : tie.Need-head-by-requires Inv-loop μ-loop
+head-by-requires c κs = tt
 
 enum-known-head : tie.Need-enum-known-head Inv-loop μ-loop
 enum-known-head c = search needs
@@ -94,13 +98,13 @@ returns : tie.Need-returns Inv-loop μ-loop
 returns c =
     let told = c .before in
     let l = clear-loop told in
-    sym (check-outside (n l) (log l) (at l) (updates l) (l .loop .inv .1) (start l .args .hashes) (clear (told .before .head .given .0 .0)) (told .before .head .given .0 .1 .0) (cleared told) (c .if1 .taken))
+    sym (check-outside (rule l) (n l) (log l) (at l) (updates l) (l .loop .inv .1) (start l .args .hashes) (clear (told .before .head .given .0 .0)) (told .before .head .given .0 .1 .0) (cleared told) (c .if1 .taken))
 
 loop-less : tie.Need-loop-less Inv-loop μ-loop
 loop-less c =
     let told = c .before in
     let l = clear-loop told in
-    let m = moves (editionAt (log l)) (log l) (at l) (clear (told .before .head .given .0 .0)) (told .before .head .given .0 .1 .0) (cleared told) in
+    let m = moves (rule l) (editionAt (log l)) (log l) (at l) (clear (told .before .head .given .0 .0)) (told .before .head .given .0 .1 .0) (cleared told) in
     omega (arith, m .on, m .within)
 
 loop-again : tie.Need-loop-again Inv-loop μ-loop
@@ -109,9 +113,9 @@ loop-again c =
     let l = clear-loop told in
     let b = told .before .head .given .0 .0 in
     let p = told .before .head .given .0 .1 .0 in
-    let m = moves (editionAt (log l)) (log l) (at l) (clear b) p (cleared told) in
+    let m = moves (rule l) (editionAt (log l)) (log l) (at l) (clear b) p (cleared told) in
     let z : updates l + 0 ≡ updates l = omega arith in
-    (l .loop .inv .0, subst (CheckState (n l) (log l) p) z (check-entry (n l) (log l) (at l) (updates l) (l .loop .inv .1) (clear b) p (cleared told) (c .if1 .left) (m .on)))
+    (l .loop .inv .0, subst (CheckState (rule l) (n l) (log l) p) z (check-entry (rule l) (n l) (log l) (at l) (updates l) (l .loop .inv .1) (clear b) p (cleared told) (c .if1 .left) (m .on)))
 
 enum-known-head-2 : tie.Need-enum-known-head-2 Inv-loop μ-loop
 enum-known-head-2 c = search needs
@@ -125,15 +129,15 @@ returns-2 c =
     let read = stop .before .before in
     let l = read .before in
     c .stopped-check .ensures
-    ∙ sym (check-stop (n l) (log l) (at l) (updates l) (l .loop .inv .1) (start l .args .hashes) (read .head-at .result) (read .head-at .ensures ∙ ap (λ (e : Edition). headOf (nextAt e (log l) (at l))) (l .loop .inv .0)) (stop .before .match .keys2) (stop .match2 .keys2))
+    ∙ sym (check-stop (rule l) (n l) (log l) (at l) (updates l) (l .loop .inv .1) (start l .args .hashes) (read .head-by .result) (read .head-by .ensures ∙ ap (λ (e : Edition). headOf (nextBy (rule l) e (log l) (at l))) (l .loop .inv .0)) (stop .before .match .keys2) (stop .match2 .keys2))
 
 returns-3 : tie.Need-returns-3 Inv-loop μ-loop
 returns-3 c =
     let told = c .before in
     let l = update-loop told in
     let t = there told in
-    sym (check-outside (n l) (log l) (at l) (updates l) (l .loop .inv .1) (start l .args .hashes) (updateOf (log l) (at l + markSize (ed told))) (after told) (t .here)
-    (subst (λ (b : ℕ). n l ≤ b) (sym (there-bucket (ed told) (log l) (at l) (bucket told) (count told) (after told) t)) (c .if2 .taken)))
+    sym (check-outside (rule l) (n l) (log l) (at l) (updates l) (l .loop .inv .1) (start l .args .hashes) (updateOf (log l) (at l + markSize (ed told))) (after told) (t .here)
+    (subst (λ (b : ℕ). n l ≤ b) (sym (there-bucket (rule l) (ed told) (log l) (at l) (bucket told) (count told) (after told) t)) (c .if2 .taken)))
 
 add-updates : tie.Need-add-updates Inv-loop μ-loop
 add-updates c = let told = c .before in let l = update-loop told in let t = there told in omega (arith, t .within, l .loop .inv .1 .few)
@@ -148,9 +152,9 @@ loop-again-2 c =
     let t = there told in
     let p = after told in (
       l .loop .inv .0,
-      subst (λ (k : ℕ). CheckState (n l) (log l) p (updates l + k)) (there-one (ed told) (log l) (at l))
-          (check-entry (n l) (log l) (at l) (updates l) (l .loop .inv .1) (updateOf (log l) (at l + markSize (ed told))) p (t .here)
-          (subst (λ (b : ℕ). b < n l) (sym (there-bucket (ed told) (log l) (at l) (bucket told) (count told) p t)) (c .if2 .left)) (omega (arith, t .after, mark-some (ed told)))),
+      subst (λ (k : ℕ). CheckState (rule l) (n l) (log l) p (updates l + k)) (there-one (ed told) (log l) (at l))
+          (check-entry (rule l) (n l) (log l) (at l) (updates l) (l .loop .inv .1) (updateOf (log l) (at l + markSize (ed told))) p (t .here)
+          (subst (λ (b : ℕ). b < n l) (sym (there-bucket (rule l) (ed told) (log l) (at l) (bucket told) (count told) p t)) (c .if2 .left)) (omega (arith, t .after, mark-some (ed told)))),
     )
 
 pub check-log-spec : {M : Type 1} → statement M
@@ -162,7 +166,7 @@ check-log-spec =
     edition-of-requires
     start-size-requires
     loop-holds
-    head-at-requires
+    head-by-requires
     enum-known-head
     returns
     loop-less

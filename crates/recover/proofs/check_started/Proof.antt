@@ -14,7 +14,7 @@ of-store-requires c κs = search needs
 returns : tie.Need-returns
 returns c =
     let args = c .before .before .before .before .args in
-    other-store (args .n) (args .log .now) (args .found) (args .want) (args .hashes) (sym (c .before .of-store .ensures) ∙ not-true (c .before .of-store .result) (c .if1 .taken))
+    other-store (args .rule) (args .n) (args .log .now) (args .found) (args .want) (args .hashes) (sym (c .before .of-store .ensures) ∙ not-true (c .before .of-store .result) (c .if1 .taken))
 
 cast-if2 : tie.Need-cast-if2
 cast-if2 c = search needs
@@ -24,7 +24,7 @@ returns-2 c =
     let else1 = c .before .before in
     let stored = else1 .before in
     let args = stored .before .before .before .args in
-    other-sync (args .n) (args .log .now) (args .found) (args .want) (args .hashes) (sym (stored .of-store .ensures) ∙ not-false (stored .of-store .result) (else1 .if1 .left)) (c .if2 .taken)
+    other-sync (args .rule) (args .n) (args .log .now) (args .found) (args .want) (args .hashes) (sym (stored .of-store .ensures) ∙ not-false (stored .of-store .result) (else1 .if1 .left)) (c .if2 .taken)
 
 check-log-requires : tie.Need-check-log-requires
 check-log-requires c κs = search needs
@@ -41,7 +41,7 @@ returns-3 c =
     let else1 = check .before .before .before in
     let stored = else1 .before in
     let args = stored .before .before .before .args in
-    all-good (args .n) (args .log .now) (args .found) (args .want) (args .hashes) (sym (stored .of-store .ensures) ∙ not-false (stored .of-store .result) (else1 .if1 .left)) (check .before .if2 .left)
+    all-good (args .rule) (args .n) (args .log .now) (args .found) (args .want) (args .hashes) (sym (stored .of-store .ensures) ∙ not-false (stored .of-store .result) (else1 .if1 .left)) (check .before .if2 .left)
     (sym (check .check-log .ensures) ∙ ap outcomeSaid (c .enum-told .given .1))
 
 returns-4 : tie.Need-returns-4
@@ -50,7 +50,7 @@ returns-4 c =
     let else1 = check .before .before .before in
     let stored = else1 .before in
     let args = stored .before .before .before .args in
-    bad-entry (args .n) (args .log .now) (args .found) (args .want) (args .hashes) (sym (stored .of-store .ensures) ∙ not-false (stored .of-store .result) (else1 .if1 .left)) (check .before .if2 .left)
+    bad-entry (args .rule) (args .n) (args .log .now) (args .found) (args .want) (args .hashes) (sym (stored .of-store .ensures) ∙ not-false (stored .of-store .result) (else1 .if1 .left)) (check .before .if2 .left)
     (numberOf (c .before .checked .given .0 .0)) (sym (check .check-log .ensures) ∙ ap outcomeSaid (c .before .checked .given .1))
 
 pub check-started-spec : {M : Type 1} → statement M

@@ -8,6 +8,7 @@ use Rattle.blocks.specs.Blocks.{put}
 use Rattle.wal.specs.Log.{clear}
 use Rattle.wal.specs.Reader.{Next, next, ended, stopped, editionAt, nextAt}
 use Rattle.wal.specs.declared.Edition.{Edition}
+use Rattle.wal.specs.declared.AfterEnd.the-variants.{Tolerant}
 use Rattle.wal_read.specs.Head.{headSaid, headOf}
 use Rattle.wal_read.proofs.ReadLaws.{head-clear, head-update, head-end, head-stop}
 use Rattle.wal_list.specs.Lines.{ascii, decimal, entryLine, endLine, refusedLine}
@@ -42,18 +43,18 @@ returns-2 c =
 edition-of-requires : tie.Need-edition-of-requires
 edition-of-requires c κs = search needs
 
-head-at-requires : tie.Need-head-at-requires
-head-at-requires c κs = search needs
+head-at-tolerant-requires : tie.Need-head-at-tolerant-requires
+head-at-tolerant-requires c κs = search needs
 
 -- the head that was read is the one of the log's own edition
-module _ (c : tie.After-head-at) where
+module _ (c : tie.After-head-at-tolerant) where
   abbrev stands : Next
   stands = let args = c .before .before .before .before .before .before .args in nextAt (editionAt (args .log .now)) (args .log .now) (args .at)
 
-  seen : headSaid (c .head-at .result) ≡ headOf stands
+  seen : headSaid (c .head-at-tolerant .result) ≡ headOf stands
   seen =
       let args = c .before .before .before .before .before .before .args in
-      c .head-at .ensures ∙ ap (λ (ed : Edition). headOf (nextAt ed (args .log .now) (args .at))) (c .before .edition-of .ensures)
+      c .head-at-tolerant .ensures ∙ ap (λ (ed : Edition). headOf (nextAt ed (args .log .now) (args .at))) (c .before .edition-of .ensures)
 
 enum-known-head : tie.Need-enum-known-head
 enum-known-head c = search needs
@@ -127,7 +128,7 @@ returns-5 c =
     let found = put .before .before .before .before .before in
     let args = found .before .before .before .before .before .before .args in
     let s : Shown = shownAt (args .log .now) (args .at) in
-    let ends = only-end (found .head-at .result) (put .before .before .before .before .match .keys2) (put .before .before .before .match2 .keys2) (put .before .before .match3 .keys2) in
+    let ends = only-end (found .head-at-tolerant .result) (put .before .before .before .before .match .keys2) (put .before .before .before .match2 .keys2) (put .before .before .match3 .keys2) in
     let here : stands found ≡ ended = head-end (stands found) (sym (ap headSaid ends) ∙ seen found) in
     with-room (args .line .now) (put .put-end .last .0) s (given (over (put .put-end .result))) (found .before .before .before .if1 .left)
     (filled-last (args .line .now) (put .put-end .last .0) s (endLine (args .at)) (put .put-end .result) (put .put-end .ensures) (shown-next (args .log .now) (args .at) ended (found .before .before .if2 .left) here))
@@ -148,7 +149,7 @@ returns-6 c =
     let bucket : ℕ = told .head3 .given .0 .0 in
     let count : ℕ = told .head3 .given .0 .1 .0 in
     let after : ℕ = told .head3 .given .0 .1 .1 .0 in
-    let there = head-update (editionAt (args .log .now)) (args .log .now) (args .at) bucket count after (sym (ap headSaid (told .head3 .given .1)) ∙ seen found) in
+    let there = head-update Tolerant (editionAt (args .log .now)) (args .log .now) (args .at) bucket count after (sym (ap headSaid (told .head3 .given .1)) ∙ seen found) in
     with-room (args .line .now) (put .put-update .last .0) s (given (on (put .put-update .result) after)) (found .before .before .before .if1 .left)
     (filled-more (args .line .now) (put .put-update .last .0) s (decimal (args .at) ++ ascii " update " ++ decimal bucket ++ ascii " " ++ decimal count ++ ascii "\n") (put .put-update .result) (put .put-update .ensures) after (shown-update (args .log .now) (args .at) bucket count after (found .before .before .if2 .left) there))
 
@@ -161,7 +162,7 @@ line-at-spec =
     same-length
     returns-2
     edition-of-requires
-    head-at-requires
+    head-at-tolerant-requires
     enum-known-head
     slice-aggregate-put-line
     number-of-requires

@@ -1,4 +1,4 @@
--- `wal_read::new` meets its contract: a walk of its MIR, by hand. `set` and `first_at` are called on the slice, and a `WalBlobReader` is made of the slice and what the two answered, in the result's local. All that the proof knows of the two is that they meet their contracts.
+-- `wal_read::new` meets its contract: a walk of its MIR, by hand. `set` and `first_at` are called on the slice, and a `WalBlobReader` is made of the slice, what the two answered and the rule, in the result's local. All that the proof knows of the two is that they meet their contracts.
 -- A `&[u8]` is Copy, so what it owns is had for each call, for log at exit, and inside the result, beside the facts of at and what the answer owns.
 -- Assumes nothing.
 use mathlib.Core.Path.{_≡_, refl, ap, subst}
@@ -19,7 +19,7 @@ use contract.Monad.{Fun, fact}
 use contract.Running.{givenOf, tables, tablesOf}
 use types.Kit.{Given, ‵, raw, _⊛_, ⋆, some, later, _$_, _∵_, !, qed, by, move, use1, use2, split, join, pick, drop as lose, rewrite, fsplit, fjoin, suffices, frame, await, done}
 use types.Part.{agg}
-use types.Run.{look, init, forget, stop, from, load, and-then, no-more, assigns, land, returns, enter, alloc1, alloc0, params1, pass1, pass0, free1, free0}
+use types.Run.{look, init, forget, stop, from, load, lit, and-then, no-more, assigns, land, returns, enter, alloc1, alloc0, params1, pass1, pass0, free1, free0}
 use sound.WpLaws.{FmC, fmOf, WpFn-mono}
 use denote.RattleType.{owns}
 use denote.Laws.{Is, shows}
@@ -50,6 +50,9 @@ use Rattle.wal_read.proofs.WalBlobReader as T
 use Rattle.wal_read.proofs.WalBlobReader.Laws as T′
 use Rattle.answers.proofs.Number as N
 use Rattle.answers.proofs.Number.Laws as N′
+use Rattle.wal.specs.declared.AfterEnd.the-variants.{Zeros}
+use Rattle.wal.proofs.AfterEnd as E
+use Rattle.wal.proofs.AfterEnd.Laws as E′
 use Rattle.wal_read.proofs.set as step
 use Rattle.wal_read.proofs.set.Symbol as step-def
 use Rattle.wal_read.proofs.set.Symbol.{name as #wal_read·set}
@@ -65,6 +68,10 @@ use Rattle.wal_read.proofs.new.Code as code
 
 abbrev stayed : Stays (new.ended .signature .params) (new.ended .kept)
 stayed = (stay-none-slice (0 ∷ []) tt (plain (λ _. u8)) yes, tt)
+
+-- the rule has no field, so nothing is owed
+rule-made : Is E.the-row Zeros (EL.vals E.the-type E′.the-laws Zeros)
+rule-made = EL.owes E.the-type E′.the-laws Zeros tt
 
 module _ {M : Type 1} (𝓤 : URA M) (H : Heap 𝓤) (A : Atoms 𝓤) (mem : Memory → SProp 𝓤) (run : Routine → Fun 𝓤) where
   -- the contract that the proof cites
@@ -91,7 +98,7 @@ module _ {M : Type 1} (𝓤 : URA M) (H : Heap 𝓤) (A : Atoms 𝓤) (W : Given
 
   -- what is made, where `set` answers n and `first_at` k
   abbrev made : Number → ℕ → WalBlobReader
-  made n k = record { log = s; at = k; start = n }
+  made n k = record { log = s; at = k; start = n; rule = Zeros }
 
   abbrev mach : Number → ℕ → Val
   mach n k = LL.val D L (made n k)
@@ -143,42 +150,43 @@ module _ {M : Type 1} (𝓤 : URA M) (H : Heap 𝓤) (A : Atoms 𝓤) (W : Given
   exits : (n : Number) (k : ℕ) → Found n → Placed k → Is usize k (vint w64 k ∷ []) → ent 𝓤 (⋆ 𝓤 H A (‵ (N.the-row .own n (n-val n ∷ [])) ∷ (‵ (flft κ q) ⊛ ‵ ftrue) ∷ ‵ Own ∷ [])) (Post (mach n k))
   exits n k e f is =
       qed W (‵ (N.the-row .own n (n-val n ∷ [])) ∷ (‵ (flft κ q) ⊛ ‵ ftrue) ∷ ‵ Own ∷ []) ∵
-      suffices ! _ (ends-at 𝓤 H A new.ended stayed (new.clauses 𝓤 H A mem run) W (((κ, tt), (q, tt), tt, (s, tt), at), tt) (mach n k) (made n k) (tt, tt) (tt, tt)) $ says ! (record { log-is = refl; at-is = f; start-is = e }) $
+      suffices ! _ (ends-at 𝓤 H A new.ended stayed (new.clauses 𝓤 H A mem run) W (((κ, tt), (q, tt), tt, (s, tt), at), tt) (mach n k) (made n k) (tt, tt) (tt, tt)) $ says ! (record { log-is = refl; at-is = f; start-is = e; rule-is = refl }) $
       move ! (1 ∷ []) $ frame ! $ move ! (1 ∷ []) $ use1 W (‵ Own ⊛ ‵ Own) (shr-slice-copy 𝓤 H A W (named 0) κ u8 .twice s (v ∷ [])) $ split ! $
       nothing ! $ move ! (1 ∷ 0 ∷ []) $ fjoin ! $ frame ! $
-      -- [what log owns; what the answer owns]: what the fields own together, of these and of at's facts, is what the struct owns
-      nothing ! $ move ! (2 ∷ 0 ∷ []) $ fjoin ! $ owned ! usize (Is usize) (uint-makes 𝓤 H A W w64) k _ is $ fjoin ! $ move ! (1 ∷ 0 ∷ []) $ fjoin ! $ by ! (own-shut 𝓤 H A W D L (s, (k, (n, tt))))
+      -- [what log owns; what the answer owns]: what the fields own together, of these and of the facts of at and rule, is what the struct owns
+      nothing ! $ owned ! E.the-row (Is E.the-row) (EL.makes E.the-type E′.the-plain 𝓤 H A) Zeros _ rule-made $ fjoin ! $ move ! (2 ∷ 0 ∷ []) $ fjoin ! $ owned ! usize (Is usize) (uint-makes 𝓤 H A W w64) k _ is $ fjoin ! $ move ! (1 ∷ 0 ∷ []) $ fjoin ! $ by ! (own-shut 𝓤 H A W D L (s, (k, (n, (Zeros, tt)))))
 
   module _ (C : Calls 𝓤 H) (Λ : Loops 𝓤 H) (fm : FmC 𝓤 H (W .laws) C) (known : Triple 𝓤 (C #wal_read·set) (StepAt 𝓤 H A mem run)) (known-place : Triple 𝓤 (C #wal_read·first-at) (PlaceAt 𝓤 H A mem run)) where
     walk : Is (ShrSlice (named 0) κ u8) s (v ∷ []) → ent 𝓤 (onEntry 𝓤 H A new.signature (κ, tt) (q, tt) (s, tt) at) (WpFn 𝓤 H C Λ code.function (v ∷ []) Post)
     walk p =
         qed W (raw (onEntry 𝓤 H A new.signature (κ, tt) (q, tt) (s, tt) at) ∷ []) ∵ enter ! C Λ code.function (v ∷ []) _ $
-        alloc1 ! (λ l₀. alloc1 ! (λ l₁. alloc1 ! (λ l₂. alloc1 ! (λ l₃. alloc0 ! $ params1 ! $ pass1 ! (init ! 4 refl (shr-slice-lawful 𝓤 H A W (named 0) κ u8 .typed s (v ∷ []) p .0)) $ pass0 ! $
-        move ! (8 ∷ []) $ use1 W (raw (StepAt 𝓤 H A mem run .pre to) ⊛ ‵ Own) goes $ split ! $
-        calls-at ! fm (StepAt 𝓤 H A mem run) known to (and-then ! (load ! (from ! (stop !)) (look ! 6 refl)) (no-more !)) (λ u.
+        alloc1 ! (λ l₀. alloc1 ! (λ l₁. alloc1 ! (λ l₂. alloc1 ! (λ l₃. alloc1 ! (λ l₄. alloc0 ! $ params1 ! $ pass1 ! (init ! 6 refl (shr-slice-lawful 𝓤 H A W (named 0) κ u8 .typed s (v ∷ []) p .0)) $ pass0 ! $
+        move ! (10 ∷ []) $ use1 W (raw (StepAt 𝓤 H A mem run .pre to) ⊛ ‵ Own) goes $ split ! $
+        calls-at ! fm (StepAt 𝓤 H A mem run) known to (and-then ! (load ! (from ! (stop !)) (look ! 8 refl)) (no-more !)) (λ u.
         use1 W (later (some (λ (n : Number). ((‵ (flft κ q) ⊛ ‵ ftrue) ⊛ ‵ (N.the-row .own n (u ∷ []))) ⊛ raw (ensured 𝓤 H A step.ended (step.clauses 𝓤 H A mem run) (κ, tt) (s, tt) tt n)))) (id⊢ 𝓤 _) $ await ! tt $ pick ! (λ n.
         split ! $ move ! (1 ∷ []) $ use1 W (raw (fact 𝓤 (Found n))) (said n) $ heard ! (Found n) (λ e. split ! $ move ! (1 ∷ []) $
-        -- [the answer; the token; what log owns; room for _3; …; room for _2; …; _1; …; room for _0; …]
+        -- [the answer; the token; what log owns; room for _4; …; room for _3; …; room for _2; …; _1; …; room for _0; …]
         peeks ! N.the-row (Is N.the-row) (shows 𝓤 H A N.the-row) n (u ∷ []) (λ is.
-        land ! (from ! (stop !)) (init ! 5 refl (EL.lawful N.the-type N′.the-laws 𝓤 H A W tt .typed n _ is .0)) $
-        rewrite ! 5 (λ (w : Val). ‵ (fat fullShare N′.mir l₂ 0 w)) (ap only (EL.tells N.the-type N′.the-laws n _ is)) refl $ rewrite ! 0 (λ (us : List Val). ‵ (N.the-row .own n us)) (EL.tells N.the-type N′.the-laws n _ is) refl $
+        land ! (from ! (stop !)) (init ! 7 refl (EL.lawful N.the-type N′.the-laws 𝓤 H A W tt .typed n _ is .0)) $
+        rewrite ! 7 (λ (w : Val). ‵ (fat fullShare N′.mir l₂ 0 w)) (ap only (EL.tells N.the-type N′.the-laws n _ is)) refl $ rewrite ! 0 (λ (us : List Val). ‵ (N.the-row .own n us)) (EL.tells N.the-type N′.the-laws n _ is) refl $
         -- the second call
         move ! (1 ∷ 2 ∷ []) $ use2 W (raw (PlaceAt 𝓤 H A mem run .pre to-place) ⊛ ‵ Own) goes-place $ split ! $
-        calls-at ! fm (PlaceAt 𝓤 H A mem run) known-place to-place (and-then ! (load ! (from ! (stop !)) (look ! 7 refl)) (no-more !)) (λ x.
+        calls-at ! fm (PlaceAt 𝓤 H A mem run) known-place to-place (and-then ! (load ! (from ! (stop !)) (look ! 9 refl)) (no-more !)) (λ x.
         use1 W (later (some (λ (k : ℕ). ((‵ (flft κ q) ⊛ ‵ ftrue) ⊛ ‵ (usize .own k (x ∷ []))) ⊛ raw (ensured 𝓤 H A place.ended (place.clauses 𝓤 H A mem run) (κ, tt) (s, tt) tt k)))) (id⊢ 𝓤 _) $ await ! tt $ pick ! (λ k.
         split ! $ move ! (1 ∷ []) $ use1 W (raw (fact 𝓤 (Placed k))) (said-place k) $ heard ! (Placed k) (λ f. split ! $ move ! (1 ∷ []) $
-        -- [the position; the token; what log owns; the answer; room for _3; …; _2; …; _1; …; room for _0; …]
+        -- [the position; the token; what log owns; the answer; room for _4; …; room for _3; …; _2; …; _1; …; room for _0; …]
         peeks ! usize (Is usize) (shows 𝓤 H A usize) k (x ∷ []) (λ at-is.
-        land ! (from ! (stop !)) (init ! 4 refl (uint-lawful 𝓤 H A W w64 .typed k _ at-is .0)) $
-        rewrite ! 4 (λ (w : Val). ‵ (fat fullShare (tyInt w64) l₃ 0 w)) (ap only (at-is .0)) refl $
+        land ! (from ! (stop !)) (init ! 6 refl (uint-lawful 𝓤 H A W w64 .typed k _ at-is .0)) $
+        rewrite ! 6 (λ (w : Val). ‵ (fat fullShare (tyInt w64) l₃ 0 w)) (ap only (at-is .0)) refl $
         lose ! $
-        assigns ! (agg ! (and-then ! (load ! (from ! (stop !)) (look ! 7 refl)) (and-then ! (load ! (from ! (stop !)) (look ! 3 refl)) (and-then ! (load ! (from ! (stop !)) (look ! 5 refl)) (no-more !))))) (from ! (stop !)) (init ! 9 refl (LL.lawful D L 𝓤 H A W .typed (made n k) _ (whole n u k (at-is .1) is) .0)) $
-        returns ! (look ! 9 refl) $ forget ! 3 refl $ forget ! 5 refl $ forget ! 7 refl $ forget ! 9 refl $ move ! (9 ∷ 10 ∷ []) $ free1 ! $ move ! (7 ∷ 8 ∷ []) $ free1 ! $ move ! (5 ∷ 6 ∷ []) $ free1 ! $ move ! (3 ∷ 4 ∷ []) $ free1 ! $ free0 ! $
-        move ! (2 ∷ 0 ∷ 1 ∷ []) $ by ! (exits n k e f (refl, at-is .1))))))))))))))
+        assigns ! (agg ! (and-then ! (lit ! tt) (no-more !))) (from ! (stop !)) (init ! 3 refl (EL.lawful E.the-type E′.the-laws 𝓤 H A W tt .typed Zeros _ rule-made .0)) $
+        assigns ! (agg ! (and-then ! (load ! (from ! (stop !)) (look ! 9 refl)) (and-then ! (load ! (from ! (stop !)) (look ! 5 refl)) (and-then ! (load ! (from ! (stop !)) (look ! 7 refl)) (and-then ! (load ! (from ! (stop !)) (look ! 3 refl)) (no-more !)))))) (from ! (stop !)) (init ! 11 refl (LL.lawful D L 𝓤 H A W .typed (made n k) _ (whole n u k (at-is .1) is) .0)) $
+        returns ! (look ! 11 refl) $ forget ! 3 refl $ forget ! 5 refl $ forget ! 7 refl $ forget ! 9 refl $ forget ! 11 refl $ move ! (11 ∷ 12 ∷ []) $ free1 ! $ move ! (9 ∷ 10 ∷ []) $ free1 ! $ move ! (7 ∷ 8 ∷ []) $ free1 ! $ move ! (5 ∷ 6 ∷ []) $ free1 ! $ move ! (3 ∷ 4 ∷ []) $ free1 ! $ free0 ! $
+        move ! (2 ∷ 0 ∷ 1 ∷ []) $ by ! (exits n k e f (refl, at-is .1)))))))))))))))
       where
         -- what is made has its type
         whole : (n : Number) (u : Val) (k : ℕ) → k < 2 ^ 64 → Is N.the-row n (u ∷ []) → Is (T.the-row α) (made n k) (mach n k ∷ [])
-        whole n u k small is = LL.owes D L (made n k) (p, ((refl, small), (subst (Is N.the-row n) (EL.tells N.the-type N′.the-laws n _ is) is, tt)))
+        whole n u k small is = LL.owes D L (made n k) (p, ((refl, small), (subst (Is N.the-row n) (EL.tells N.the-type N′.the-laws n _ is) is, (rule-made, tt))))
 
 module _ {M : Type 1} (𝓤 : URA M) (H : Heap 𝓤) (A : Atoms 𝓤) (W : Given 𝓤 H A) (mem : Memory → SProp 𝓤) (run : Routine → Fun 𝓤) where
   new-walks : (C : Calls 𝓤 H) (Λ : Loops 𝓤 H) → FmC 𝓤 H (W .laws) C → Triple 𝓤 (C #wal_read·set) (StepAt 𝓤 H A mem run) → Triple 𝓤 (C #wal_read·first-at) (PlaceAt 𝓤 H A mem run) → Walks 𝓤 H A new.ended stayed (WpFn 𝓤 H C Λ code.function) (new.clauses 𝓤 H A mem run)

@@ -83,7 +83,7 @@ module _ {M : Type 1} (𝓤 : URA M) (H : Heap 𝓤) (A : Atoms 𝓤) (W : Given
 
   -- the struct with the number k
   abbrev h′ : ℕ → WalBlobReader
-  h′ k = record { log = h .log; at = k; start = h .start }
+  h′ k = record { log = h .log; at = k; start = h .start; rule = h .rule }
 
   abbrev at : List Val × Unit {0}
   at = (vptr b o ∷ [], tt)
@@ -110,12 +110,12 @@ module _ {M : Type 1} (𝓤 : URA M) (H : Heap 𝓤) (A : Atoms 𝓤) (W : Given
 
   -- what log owns is kept, and at's facts are made anew
   again : (k : ℕ) → k < 2 ^ 64 → ent 𝓤 (sem 𝓤 H A (Own h)) (sem 𝓤 H A (Own (h′ k)))
-  again k ok = qed W (‵ (Own h) ∷ []) ∵ owned ! usize (Is usize) (uint-makes 𝓤 H A W w64) k _ (refl, ok) $ move ! (1 ∷ 0 ∷ []) $ by ! (own-put 𝓤 H A W (T.the-type (α κ′)) (T′.the-laws (α κ′)) 1 (h .log, (h .at, (h .start, tt))) k (mach h))
+  again k ok = qed W (‵ (Own h) ∷ []) ∵ owned ! usize (Is usize) (uint-makes 𝓤 H A W w64) k _ (refl, ok) $ move ! (1 ∷ 0 ∷ []) $ by ! (own-put 𝓤 H A W (T.the-type (α κ′)) (T′.the-laws (α κ′)) 1 (h .log, (h .at, (h .start, (h .rule, tt)))) k (mach h))
 
   exits : (r : WalEntry) → Found r → ent 𝓤 (⋆ 𝓤 H A (‵ (fobs γ (B κ′ .coded .code (h′ (r .next)))) ∷ ‵ (fbor κ (Body (mem (B κ′)) b o γ)) ∷ ‵ (flft κ q) ∷ (‵ (flft κ′ q′) ⊛ ‵ ftrue) ∷ ‵ (OwnE r) ∷ [])) (Post (val r))
   exits r e =
       qed W (‵ (fobs γ (B κ′ .coded .code (h′ (r .next)))) ∷ ‵ (fbor κ (Body (mem (B κ′)) b o γ)) ∷ ‵ (flft κ q) ∷ (‵ (flft κ′ q′) ⊛ ‵ ftrue) ∷ ‵ (OwnE r) ∷ []) ∵
-      suffices ! _ (ends-at 𝓤 H A f.ended stayed (f.clauses 𝓤 H A at-mem run) W (((κ, (κ′, tt)), (q, (q′, tt)), bounds, x, at), tt) (val r) r (h′ (r .next), tt) (tt, tt)) $ says ! (record { entry-is = e; log-stays = refl; at-moves = refl; start-stays = refl }) $
+      suffices ! _ (ends-at 𝓤 H A f.ended stayed (f.clauses 𝓤 H A at-mem run) W (((κ, (κ′, tt)), (q, (q′, tt)), bounds, x, at), tt) (val r) r (h′ (r .next), tt) (tt, tt)) $ says ! (record { entry-is = e; log-stays = refl; at-moves = refl; start-stays = refl; rule-stays = refl }) $
       move ! (2 ∷ 3 ∷ []) $ join ! $ frame ! $ feqI ! (List Val) (vptr b o ∷ []) (vptr b o ∷ []) refl $ fjoin3 ! $ nothing ! $ move ! (1 ∷ 0 ∷ []) $ fjoin ! $ frame ! $ done !
 
   -- the call of `peek`, at the struct

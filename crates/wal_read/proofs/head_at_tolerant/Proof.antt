@@ -13,8 +13,8 @@ use Rattle.wal.specs.declared.Edition.{Edition}
 use Rattle.wal_read.specs.Head.{headOf}
 use Rattle.wal_read.specs.InnerEntry.{tagSaid}
 use Rattle.wal_read.proofs.NextLaws.{mark-within, next-unmarked, next-tagged}
-use Rattle.wal_read.proofs.head_at.Statement.{statement}
-use Rattle.wal_read.proofs.head_at.Tie as tie
+use Rattle.wal_read.proofs.head_at_tolerant.Statement.{statement}
+use Rattle.wal_read.proofs.head_at_tolerant.Tie as tie
 
 tag-at-requires : tie.Need-tag-at-requires
 tag-at-requires c κs = search needs
@@ -67,8 +67,8 @@ returns-2 c =
     let args = c .before .before .before .before .before .args in
     sym (ap headOf (next-unmarked (args .edition) (args .log .now) (args .at) (numberOf (c .before .found2 .given .0 .0)) (sym (sym (ap tagSaid (c .before .found2 .given .1)) ∙ c .before .before .before .tag-at .ensures))))
 
-pub head-at-spec : {M : Type 1} → statement M
-head-at-spec =
+pub head-at-tolerant-spec : {M : Type 1} → statement M
+head-at-tolerant-spec =
     tie.close
     (tie.spec
     tag-at-requires

@@ -7,16 +7,17 @@ use borrow.Author.Needs.{needs}
 use Rattle.answers.specs.Refusals.{numberOf}
 use Rattle.page_diff.specs.Pack.{packedBy}
 use Rattle.wal.specs.Log.{markSize}
-use Rattle.wal.specs.Reader.{nextAt}
+use Rattle.wal.specs.Reader.{nextBy}
+use Rattle.wal.specs.declared.AfterEnd.{AfterEnd}
 use Rattle.wal.specs.declared.Edition.{Edition}
 use Rattle.wal_read.specs.Head.{headSaid}
 use Rattle.wal_read.proofs.ReadLaws.{There, head-clear, head-update, head-end, head-stop}
 use Rattle.wal_read.proofs.Answered.{bare-clear, bare-end, bare-stop, update-taken}
-use Rattle.wal_read.proofs.entry_at.Statement.{statement}
-use Rattle.wal_read.proofs.entry_at.Tie as tie
+use Rattle.wal_read.proofs.entry_by.Statement.{statement}
+use Rattle.wal_read.proofs.entry_by.Tie as tie
 
-head-at-requires : tie.Need-head-at-requires
-head-at-requires c κs = search needs
+head-by-requires : tie.Need-head-by-requires
+head-by-requires c κs = search needs
 
 enum-known-head : tie.Need-enum-known-head
 enum-known-head c = search needs
@@ -41,6 +42,9 @@ module _ (c : tie.After-mark-size) where
   abbrev ed : Edition
   ed = c .before .before .before .before .before .before .args .edition
 
+  abbrev rule : AfterEnd
+  rule = c .before .before .before .before .before .before .args .rule
+
   abbrev bucket : ℕ
   bucket = c .before .before .head2 .given .0 .0
 
@@ -53,8 +57,8 @@ module _ (c : tie.After-mark-size) where
   size : c .mark-size .result ≡ markSize ed
   size = c .mark-size .ensures
 
-  there : There ed log at bucket count after
-  there = head-update ed log at bucket count after (sym (ap headSaid (c .before .before .head2 .given .1)) ∙ c .before .before .before .before .head-at .ensures)
+  there : There rule ed log at bucket count after
+  there = head-update rule ed log at bucket count after (sym (ap headSaid (c .before .before .head2 .given .1)) ∙ c .before .before .before .before .head-by .ensures)
 
 add-body : tie.Need-add-body
 add-body c = omega (arith, there c, size c)
@@ -102,33 +106,33 @@ returns : tie.Need-returns
 returns c =
     let found = c .before .before in
     let start = found .before .before .before .before in
-    let said = sym (ap headSaid (found .head .given .1)) ∙ found .before .before .head-at .ensures in
-    bare-clear (start .args .at) (found .head .given .0 .1 .0) (c .bare .result) (nextAt (start .args .edition) (start .args .log .now) (start .args .at)) (found .head .given .0 .0) (head-clear (nextAt (start .args .edition) (start .args .log .now) (start .args .at)) (found .head .given .0 .0) (found .head .given .0 .1 .0) said) (c .bare .ensures)
+    let said = sym (ap headSaid (found .head .given .1)) ∙ found .before .before .head-by .ensures in
+    bare-clear (start .args .at) (found .head .given .0 .1 .0) (c .bare .result) (nextBy (start .args .rule) (start .args .edition) (start .args .log .now) (start .args .at)) (found .head .given .0 .0) (head-clear (nextBy (start .args .rule) (start .args .edition) (start .args .log .now) (start .args .at)) (found .head .given .0 .0) (found .head .given .0 .1 .0) said) (c .bare .ensures)
 
 returns-2 : tie.Need-returns-2
 returns-2 c =
     let here = c .before .before .before .before .before .before in
-    update-taken (ed here) (log here) (at here) (bucket here) (count here) (after here) _ (there here) (here .mark-size .result) (size here) refl (c .before .before .before .before .before .block-32 .ensures) (c .before .before .before .before .diff-at .ensures .1) (c .before .pack-up .ensures ∙ ap (λ (t : List (List ℕ)). packedBy t (count here)) (c .before .before .nodes-at .ensures)) (c .block-8 .ensures) refl
+    update-taken (rule here) (ed here) (log here) (at here) (bucket here) (count here) (after here) _ (there here) (here .mark-size .result) (size here) refl (c .before .before .before .before .before .block-32 .ensures) (c .before .before .before .before .diff-at .ensures .1) (c .before .pack-up .ensures ∙ ap (λ (t : List (List ℕ)). packedBy t (count here)) (c .before .before .nodes-at .ensures)) (c .block-8 .ensures) refl
 
 returns-3 : tie.Need-returns-3
 returns-3 c =
     let found = c .before in
     let start = found .before .before .before .before in
-    let said = sym (ap headSaid (found .enum-told .given .1)) ∙ found .before .before .head-at .ensures in
-    bare-end (start .args .at) (c .bare2 .result) (nextAt (start .args .edition) (start .args .log .now) (start .args .at)) (head-end (nextAt (start .args .edition) (start .args .log .now) (start .args .at)) said) (c .bare2 .ensures)
+    let said = sym (ap headSaid (found .enum-told .given .1)) ∙ found .before .before .head-by .ensures in
+    bare-end (start .args .at) (c .bare2 .result) (nextBy (start .args .rule) (start .args .edition) (start .args .log .now) (start .args .at)) (head-end (nextBy (start .args .rule) (start .args .edition) (start .args .log .now) (start .args .at)) said) (c .bare2 .ensures)
 
 returns-4 : tie.Need-returns-4
 returns-4 c =
     let found = c .before .before in
     let start = found .before .before .before .before in
-    let said = sym (ap headSaid (found .head3 .given .1)) ∙ found .before .before .head-at .ensures in
-    bare-stop (start .args .at) (c .bare3 .result) (nextAt (start .args .edition) (start .args .log .now) (start .args .at)) (found .head3 .given .0 .0) (head-stop (nextAt (start .args .edition) (start .args .log .now) (start .args .at)) (numberOf (found .head3 .given .0 .0)) said) (c .bare3 .ensures)
+    let said = sym (ap headSaid (found .head3 .given .1)) ∙ found .before .before .head-by .ensures in
+    bare-stop (start .args .at) (c .bare3 .result) (nextBy (start .args .rule) (start .args .edition) (start .args .log .now) (start .args .at)) (found .head3 .given .0 .0) (head-stop (nextBy (start .args .rule) (start .args .edition) (start .args .log .now) (start .args .at)) (numberOf (found .head3 .given .0 .0)) said) (c .bare3 .ensures)
 
-pub entry-at-spec : {M : Type 1} → statement M
-entry-at-spec =
+pub entry-by-spec : {M : Type 1} → statement M
+entry-by-spec =
     tie.close
     (tie.spec
-    head-at-requires
+    head-by-requires
     enum-known-head
     bare-requires
     enum-known-head-2

@@ -7,8 +7,8 @@ use Rattle.ht_file.specs.Places.{imageFits}
 use Rattle.ht_file.proofs.Laws.{table-fits}
 use Rattle.recover.proofs.Steps.{step-unfit}
 use borrow.Author.Needs.{needs}
-use Rattle.recover.proofs.apply_entry.Statement.{statement}
-use Rattle.recover.proofs.apply_entry.Tie as tie
+use Rattle.recover.proofs.apply_by.Statement.{statement}
+use Rattle.recover.proofs.apply_by.Tie as tie
 
 check-image-requires : tie.Need-check-image-requires
 check-image-requires c κs = search needs
@@ -19,7 +19,7 @@ enum-known-fit c = search needs
 returns : tie.Need-returns
 returns c =
     let args = c .before .before .before .before .before .before .args in
-    step-unfit (args .n) (args .image .now) (args .edition) (args .log .now) (args .at) (args .hash) (numberOf (c .before .fit .given .0 .0)) (sym (c .before .before .before .check-image .ensures) ∙ ap outcomeSaid (c .before .fit .given .1))
+    step-unfit (args .rule) (args .n) (args .image .now) (args .edition) (args .log .now) (args .at) (args .hash) (numberOf (c .before .fit .given .0 .0)) (sym (c .before .before .before .check-image .ensures) ∙ ap outcomeSaid (c .before .fit .given .1))
 
 enum-told : tie.Need-enum-told
 enum-told c = search needs
@@ -36,8 +36,8 @@ same-length c = search needs
 returns-2 : tie.Need-returns-2
 returns-2 c = search needs
 
-pub apply-entry-spec : {M : Type 1} → statement M
-apply-entry-spec =
+pub apply-by-spec : {M : Type 1} → statement M
+apply-by-spec =
     tie.close
     (tie.spec
     check-image-requires

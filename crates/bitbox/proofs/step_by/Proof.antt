@@ -5,14 +5,14 @@ use Rattle.recover.specs.Replay.{Went, stepAnswer, stepImage}
 use Rattle.wal.specs.declared.Edition.{Edition}
 use Rattle.bitbox.specs.Words.{wentWords}
 use borrow.Author.Needs.{needs}
-use Rattle.bitbox.proofs.bitbox_replay_step.Statement.{statement}
-use Rattle.bitbox.proofs.bitbox_replay_step.Tie as tie
+use Rattle.bitbox.proofs.step_by.Statement.{statement}
+use Rattle.bitbox.proofs.step_by.Tie as tie
 
 edition-of-requires : tie.Need-edition-of-requires
 edition-of-requires c κs = search needs
 
-apply-entry-requires : tie.Need-apply-entry-requires
-apply-entry-requires c κs = search needs
+apply-by-requires : tie.Need-apply-by-requires
+apply-by-requires c κs = search needs
 
 of-stepped-requires : tie.Need-of-stepped-requires
 of-stepped-requires c κs = search needs
@@ -26,12 +26,12 @@ returns c =
     let said = ran .before .before .edition-of .ensures in
     let args = c .before .before .before .before .before .before .before .before .args in (
       c .of-stepped .ensures
-          ∙ ap (λ (a : Answer Went). wentWords a (args .at)) (ran .apply-entry .ensures .0)
-          ∙ ap (λ (e : Edition). wentWords (stepAnswer (args .n) (args .image .now) e (args .log .now) (args .at)) (args .at)) said,
-      ran .apply-entry .ensures .1 ∙ ap (λ (e : Edition). stepImage (args .n) (args .image .now) e (args .log .now) (args .at) (args .hash)) said,
+          ∙ ap (λ (a : Answer Went). wentWords a (args .at)) (ran .apply-by .ensures .0)
+          ∙ ap (λ (e : Edition). wentWords (stepAnswer (args .rule) (args .n) (args .image .now) e (args .log .now) (args .at)) (args .at)) said,
+      ran .apply-by .ensures .1 ∙ ap (λ (e : Edition). stepImage (args .rule) (args .n) (args .image .now) e (args .log .now) (args .at) (args .hash)) said,
     )
 
-pub bitbox-replay-step-spec : {M : Type 1} → statement M
-bitbox-replay-step-spec =
+pub step-by-spec : {M : Type 1} → statement M
+step-by-spec =
     tie.close
-    (tie.spec edition-of-requires apply-entry-requires of-stepped-requires same-length returns)
+    (tie.spec edition-of-requires apply-by-requires of-stepped-requires same-length returns)

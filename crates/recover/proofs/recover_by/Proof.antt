@@ -7,12 +7,13 @@ use Rattle.answers.specs.Answers.{Answer, given}
 use Rattle.recover.specs.Places.{replayed}
 use Rattle.recover.specs.Replay.{Did, applied, replayAnswer, imageBy, stepsOf, recoveredSaid}
 use Rattle.recover.proofs.Replays.{applied-told, others-leave}
+use Rattle.recover.proofs.Endings.{check-tolerant}
 use borrow.Author.Needs.{needs}
-use Rattle.recover.proofs.recover.Statement.{statement}
-use Rattle.recover.proofs.recover.Tie as tie
+use Rattle.recover.proofs.recover_by.Statement.{statement}
+use Rattle.recover.proofs.recover_by.Tie as tie
 
 -- after the tests
-module _ (c : tie.After-check-replay) where
+module _ (c : tie.After-check-by) where
   abbrev start : tie.Start
   start = c .before .before .before .before
 
@@ -25,14 +26,14 @@ module _ (c : tie.After-check-replay) where
   abbrev hashes : List ℕ
   hashes = start .args .hashes .now
 
-  said : recoveredSaid (c .check-replay .result) ≡ replayAnswer (start .args .n) image log (start .args .want) hashes
-  said = c .check-replay .ensures
+  said : recoveredSaid (c .check-by .result) ≡ replayAnswer (start .args .rule) (start .args .n) image log (start .args .want) hashes
+  said = c .check-by .ensures
 
   abbrev after : List ℕ
   after = replayed (start .args .n) (stepsOf log hashes) image
 
-check-replay-requires : tie.Need-check-replay-requires
-check-replay-requires c κs = search needs
+check-by-requires : tie.Need-check-by-requires
+check-by-requires c κs = search needs
 
 enum-told : tie.Need-enum-told
 enum-told c = search needs
@@ -40,12 +41,14 @@ enum-told c = search needs
 returns : tie.Need-returns
 returns c =
     let t = c .before in
-    (said t, others-leave (t .check-replay .result) (image t) (after t) (c .match .keys2) ∙ ap (λ (a : Answer Did). imageBy a (image t) (after t)) (said t))
+    (said t, others-leave (t .check-by .result) (image t) (after t) (c .match .keys2) ∙ ap (λ (a : Answer Did). imageBy a (image t) (after t)) (said t))
 
 run-requires : tie.Need-run-requires
 run-requires c κs =
     let t = c .before .before .before in
-    applied-told (start t .args .n) (length (image t)) (log t) (start t .args .want) (length (hashes t)) (sym (said t) ∙ ap recoveredSaid (c .before .enum-told .given .1))
+    let rule = start t .args .rule in
+    let told = applied-told rule (start t .args .n) (length (image t)) (log t) (start t .args .want) (length (hashes t)) (sym (said t) ∙ ap recoveredSaid (c .before .enum-told .given .1)) in
+    (told .0, check-tolerant rule (start t .args .n) (log t) (length (hashes t)) (told .1))
 
 same-length : tie.Need-same-length
 same-length c = search needs
@@ -57,6 +60,6 @@ returns-2 c =
     let t = told .before .before in
     (said t, ran .run .ensures ∙ sym (ap (λ (a : Answer Did). imageBy a (image t) (after t)) (sym (said t) ∙ ap recoveredSaid (told .enum-told .given .1))))
 
-pub recover-spec : {M : Type 1} → statement M
-recover-spec =
-    tie.close (tie.spec check-replay-requires enum-told returns run-requires same-length returns-2)
+pub recover-by-spec : {M : Type 1} → statement M
+recover-by-spec =
+    tie.close (tie.spec check-by-requires enum-told returns run-requires same-length returns-2)
