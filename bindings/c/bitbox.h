@@ -28,8 +28,8 @@
 extern "C" {
 #endif
 
-#define BITBOX_VERSION "0.3.0"
-#define BITBOX_VERSION_NUMBER 300 /* 10,000 for the first number, 100 for the second */
+#define BITBOX_VERSION "0.4.0"
+#define BITBOX_VERSION_NUMBER 400 /* 10,000 for the first number, 100 for the second */
 
 #define BITBOX_PAGE 4096         /* bytes of a page */
 #define BITBOX_SLOTS 126         /* slots of a page */
@@ -65,7 +65,8 @@ enum {
     BITBOX_TAG_WRONG = 22,       /* a bucket's tag is not its page's */
     BITBOX_EMPTY_FIRST = 23,     /* a page's path meets an empty bucket before its own */
     BITBOX_NOT_REACHED = 24,     /* a page's path never comes to its bucket */
-    BITBOX_OTHER_STORE = 26      /* a log names another store */
+    BITBOX_OTHER_STORE = 26,     /* a log names another store */
+    BITBOX_AFTER_END_USED = 27   /* a byte after a log's end is not zero */
 };
 
 /* The name of a refusal as docs/ANSWERS.md has it, "Done" for 0; "Unknown" for a number that is none. */
@@ -98,6 +99,7 @@ static inline const char *bitbox_refusal_name(uint64_t refusal)
     case BITBOX_EMPTY_FIRST: return "EmptyFirst";
     case BITBOX_NOT_REACHED: return "NotReached";
     case BITBOX_OTHER_STORE: return "OtherStore";
+    case BITBOX_AFTER_END_USED: return "AfterEndUsed";
     default: return "Unknown";
     }
 }
@@ -339,7 +341,10 @@ bitbox_found bitbox_lookup(const uint8_t *image, size_t image_len, size_t n, uin
 bitbox_answer bitbox_allocate(uint8_t *tags, size_t tags_len, size_t n, uint64_t hash);
 
 /* ---- the log; edition two, whose start names the store, is the one to write, edition one that of old logs.
- * `edition` is BITBOX_EDITION_...: 2 is the second, any other number the first */
+ * `edition` is BITBOX_EDITION_...: 2 is the second, any other number the first. What comes to a log's end, here and in
+ * replay, wants zeros after it, up to log_len: lend exactly the length that finish or sync answered. The calls whose
+ * names end in _tolerant take whatever is there: for logs that have something after their end, as a label, and for
+ * what only shows a log */
 
 /* The sync number of a log of either edition. 5, 6, 7. */
 bitbox_answer bitbox_reader_set(const uint8_t *log, size_t log_len);
@@ -349,10 +354,14 @@ uint32_t bitbox_reader_edition(const uint8_t *log, size_t log_len);
 size_t bitbox_reader_first(const uint8_t *log, size_t log_len);
 /* The seed in the start of a log of edition two, bytes 6 to 21; zeros where the log is shorter. */
 void bitbox_reader_seed(const uint8_t *log, size_t log_len, uint8_t seed[16]);
-/* The entry at a position of a log of this edition. 4, 6, 8. */
+/* The entry at a position of a log of this edition. 4, 6, 8; 27 in place of the end. */
 bitbox_entry bitbox_reader_next(const uint8_t *log, size_t log_len, size_t at, uint32_t edition);
-/* The same without an update's fields. 4, 6, 8. */
+/* The same, whatever follows the end. 4, 6, 8. */
+bitbox_entry bitbox_reader_next_tolerant(const uint8_t *log, size_t log_len, size_t at, uint32_t edition);
+/* The entry without an update's fields. 4, 6, 8; 27 in place of the end. */
 bitbox_head bitbox_reader_head(const uint8_t *log, size_t log_len, size_t at, uint32_t edition);
+/* The same, whatever follows the end. 4, 6, 8. */
+bitbox_head bitbox_reader_head_tolerant(const uint8_t *log, size_t log_len, size_t at, uint32_t edition);
 /* Begins a log, in any state. 13. */
 bitbox_written bitbox_begin(uint8_t *log, size_t log_len, bitbox_writer_state w, bitbox_log_start start);
 /* Writes that a bucket is cleared. 12, 13. */
@@ -361,7 +370,8 @@ bitbox_written bitbox_write_clear(uint8_t *log, size_t log_len, bitbox_writer_st
 bitbox_written bitbox_write_update(uint8_t *log, size_t log_len, bitbox_writer_state w, const uint8_t id[32],
                                    uint64_t lo, uint64_t hi, const uint8_t *nodes, size_t count,
                                    const uint8_t elided[8], uint64_t bucket);
-/* Finishes the log. 12, 13. */
+/* Finishes the log, which is the first `length` bytes of the slice; those behind it stay, and are not the log's. 12,
+ * 13. */
 bitbox_written bitbox_finish(uint8_t *log, size_t log_len, bitbox_writer_state w);
 
 /* ---- sync; `marks` has a byte for each tag page, `cells` buckets that changes share */
@@ -385,12 +395,20 @@ bitbox_sync_answer bitbox_sync(uint8_t *tags, size_t tags_len, uint8_t *marks, s
 
 /* A log of either edition into the image of the store with this seed, with a hash for each update:
  * BITBOX_REPLAY_... One of edition one names no store: it is taken by its sync number alone. 1, 5, 7, 26, an entry's,
- * 2. */
+ * 27, 2. */
 bitbox_answer bitbox_replay(uint8_t *image, size_t image_len, size_t n, const uint8_t *log, size_t log_len,
                             uint32_t sync_seqn, const uint8_t seed[16], const uint64_t *hashes, size_t hashes_len);
-/* The entry at a position of a log of this edition into an image; no seed is compared. 1, 4, 6, 8, 9. */
+/* The same, whatever follows the log's end. 1, 5, 7, 26, an entry's, 2. */
+bitbox_answer bitbox_replay_tolerant(uint8_t *image, size_t image_len, size_t n, const uint8_t *log, size_t log_len,
+                                     uint32_t sync_seqn, const uint8_t seed[16], const uint64_t *hashes,
+                                     size_t hashes_len);
+/* The entry at a position of a log of this edition into an image; no seed is compared. 1, 4, 6, 8, 9; 27 in place of
+ * the end. */
 bitbox_stepped bitbox_replay_step(uint8_t *image, size_t image_len, size_t n, const uint8_t *log, size_t log_len,
                                   uint32_t edition, size_t at, uint64_t hash);
+/* The same, whatever follows the log's end. 1, 4, 6, 8, 9. */
+bitbox_stepped bitbox_replay_step_tolerant(uint8_t *image, size_t image_len, size_t n, const uint8_t *log,
+                                           size_t log_len, uint32_t edition, size_t at, uint64_t hash);
 
 /* ---- growth and audit; `hashes` has one for each (old) bucket */
 

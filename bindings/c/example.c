@@ -1,6 +1,6 @@
-/* A sync of two new pages; power fails while the table is written out; another store's log is refused; the store's
- * own is replayed onto the older image, and the pages are looked up and audited. Then nodes are packed out of a page,
- * written into a log, read back and put into another page. */
+/* A sync of two new pages; power fails while the table is written out; another store's log is refused, and so is one
+ * with entries of a longer log behind it; the store's own is replayed onto the older image, and the pages are looked up
+ * and audited. Then nodes are packed out of a page, written into a log, read back and put into another page. */
 #include "bitbox.h"
 #include <stdio.h>
 #include <string.h>
@@ -88,7 +88,7 @@ int main(void)
            marks[0]);
     printf("buckets %llu and %llu\n", (unsigned long long)cells[0], (unsigned long long)cells[1]);
 
-    /* The log, read off. */
+    /* The log, read off; what follows its end does not matter for that. */
     uint32_t edition = bitbox_reader_edition(log_, synced.length);
     uint8_t named[BITBOX_SEED];
     bitbox_reader_seed(log_, synced.length, named);
@@ -97,7 +97,7 @@ int main(void)
            memcmp(named, seed, sizeof seed) == 0 ? "this one" : "another");
     size_t first = bitbox_reader_first(log_, synced.length), at = first;
     for (;;) {
-        bitbox_entry e = bitbox_reader_next(log_, synced.length, at, edition);
+        bitbox_entry e = bitbox_reader_next_tolerant(log_, synced.length, at, edition);
         if (e.refusal != 0 || e.kind == BITBOX_ENTRY_END) {
             printf("%zu end\n", at);
             break;
@@ -116,6 +116,11 @@ int main(void)
     bitbox_answer foreign = bitbox_replay(image, LENGTH, N, log_, synced.length, 7, rehearsal, hashes, 2);
     printf("replay for sync 7 of a rehearsal: refusal %llu, %s\n", (unsigned long long)foreign.refusal,
            bitbox_refusal_name(foreign.refusal));
+    /* A longer log that was in this slice has left an update behind the end. What is lent is the log alone. */
+    log_[synced.length] = 4;
+    bitbox_answer whole = bitbox_replay(image, LENGTH, N, log_, sizeof log_, 7, seed, hashes, 2);
+    printf("replay of the whole slice: refusal %llu, %s\n", (unsigned long long)whole.refusal,
+           bitbox_refusal_name(whole.refusal));
     bitbox_answer replayed = bitbox_replay(image, LENGTH, N, log_, synced.length, 7, seed, hashes, 2);
     printf("replay for sync 7: %s\n", replayed.value == BITBOX_REPLAY_APPLIED ? "applied" : "not applied");
     printf("tags are those of the sync: %s\n", memcmp(image, tags, sizeof tags) == 0 ? "yes" : "no");

@@ -62,9 +62,13 @@ int main(void)
     }
     for (uint32_t edition = 0; edition <= 3; edition++) {
         answers("reader_next", bitbox_reader_next(NULL, 0, 5, edition).refusal, BITBOX_LOG_CUT);
+        answers("reader_next_tolerant", bitbox_reader_next_tolerant(NULL, 0, 5, edition).refusal, BITBOX_LOG_CUT);
         answers("reader_head", bitbox_reader_head(NULL, 0, 5, edition).refusal, BITBOX_LOG_CUT);
+        answers("reader_head_tolerant", bitbox_reader_head_tolerant(NULL, 0, 5, edition).refusal, BITBOX_LOG_CUT);
         answers("replay_step", bitbox_replay_step(image, sizeof image, 1, NULL, 0, edition, 5, 0).refusal,
                 BITBOX_LOG_CUT);
+        answers("replay_step_tolerant",
+                bitbox_replay_step_tolerant(image, sizeof image, 1, NULL, 0, edition, 5, 0).refusal, BITBOX_LOG_CUT);
     }
     answers("begin", bitbox_begin(NULL, 0, open, start).refusal, BITBOX_NO_ROOM);
     answers("write_clear", bitbox_write_clear(NULL, 0, open, 1).refusal, BITBOX_NO_ROOM);
@@ -90,6 +94,12 @@ int main(void)
             BITBOX_DONE);
     answers("replay, another store",
             bitbox_replay(image, sizeof image, 1, log_, sizeof log_, 1, other, NULL, 0).refusal, BITBOX_OTHER_STORE);
+    answers("replay_tolerant", bitbox_replay_tolerant(NULL, 0, 1, NULL, 0, 1, seed, NULL, 0).refusal,
+            BITBOX_TABLE_UNFIT);
+    answers("replay_tolerant, no log",
+            bitbox_replay_tolerant(image, sizeof image, 1, NULL, 0, 1, other, NULL, 0).refusal, BITBOX_DONE);
+    answers("replay_tolerant, no hashes",
+            bitbox_replay_tolerant(image, sizeof image, 1, log_, sizeof log_, 1, seed, NULL, 0).refusal, BITBOX_DONE);
     answers("read_marker", bitbox_read_marker(NULL, 0).refusal, BITBOX_MARKER_LENGTH);
     answers("grow", bitbox_grow(NULL, 0, 1, NULL, 0, 2, NULL, 0).refusal, BITBOX_LENGTH_UNFIT);
     answers("audit", bitbox_audit(NULL, 0, 1, NULL, 0).refusal, BITBOX_TABLE_UNFIT);

@@ -1,14 +1,15 @@
-//! A quiz show's store through two power cuts and an accident, with its files in a temporary folder.
+//! A quiz show's store through two power cuts and two accidents, with its files in a temporary folder.
 //!
 //!     show [--seed N] [--rounds N] [--list PROGRAM]
 //!
 //! Forty questions are synced. A second sync changes, adds and clears some; power is cut at a byte of the
 //! table's write-out that chance picks, and again at a byte of the recovery's own. Then the table must be, byte
-//! for byte, that of a store whose power was never cut. Last comes the accident: a rehearsal on a copy of the folder
+//! for byte, that of a store whose power was never cut. Then comes the accident: a rehearsal on a copy of the folder
 //! is at the same sync number, and its log comes to lie beside the recording's table. In the log's first edition it
-//! is taken in, which is shown as a warning; in the second, which the store writes, it is refused. `--list` names the
-//! program that reads off logs. With rounds, each has the next seed and only their sum is told. Any mismatch ends
-//! with status 1.
+//! is taken in, which is shown as a warning; in the second, which the store writes, it is refused. Last a log is written
+//! over a longer one, whose entries then stand after its end: it is refused, until the file is cut to the log's length.
+//! `--list` names the program that reads off logs. With rounds, each has the next seed and only their sum is told. Any
+//! mismatch ends with status 1.
 
 use bitbox::{
     audit, lookup, page_number, replay, sync, table_length, tag_page, tag_pages, Change, Diff, Entry, EntryRef, Found,
@@ -46,6 +47,7 @@ const REHEARSED: usize = 20;
 const OPENED: u32 = 1;
 const TONIGHT: u32 = 2;
 const TOMORROW: u32 = 3;
+const FINALE: u32 = 4;
 const SOME_DAY: u32 = 7000;
 
 /// A page's hash is the caller's to choose. Here it is FNV-1a, 64 bits, over the 32 bytes of its id.
@@ -379,9 +381,9 @@ fn check_log(log: &[u8], edits: &[Edit]) -> Outcome<()> {
     Ok(())
 }
 
-/// The lines of a log: offset, kind and fields of each record.
+/// The lines of a log: offset, kind and fields of each record. What follows its end is not looked at.
 fn read_off(log: &[u8]) -> Outcome<Vec<String>> {
-    let mut reader = Reader::new(log)?;
+    let mut reader = Reader::new(log)?.tolerant();
     let mut lines = vec![format!("0 start {}", reader.sync_seqn())];
     loop {
         let at = reader.position();
@@ -578,6 +580,32 @@ impl Round<'_> {
         check_pages(&table, show)
     }
 
+    /// Another accident: the log of a sync is written over a longer one in the same file, and that one's entries stand
+    /// after its end. It is refused. The file cut to the length that the sync answered is the log.
+    fn written_over(&mut self, store: &Store, show: &mut Show, longer: &[u8]) -> Outcome<()> {
+        let edits = show.change_some(1, &mut self.chance)?;
+        let (Synced { length, .. }, _) = store.prepare(store.start(FINALE)?, &edits)?;
+        let (table, log) = (store.table()?.to_vec(), store.log()?);
+        check(length < longer.len(), || "the opening's log is not longer".into())?;
+        store.put_log(&[&log[..], &longer[length..]].concat())?;
+        let refused = store.recover().err().ok_or("a log with entries after its end is taken")?;
+        check(refused.downcast_ref() == Some(&Refusal::AfterEndUsed), || {
+            format!("it is refused otherwise: {refused}")
+        })?;
+        check(store.table()?[..] == table, || "a log with entries after its end has reached the table".into())?;
+        self.say(format!(
+            "ANOTHER ACCIDENT: the log of sync {FINALE} is written over sync {OPENED}'s longer one: refused."
+        ));
+        self.say(format!("    {refused}"));
+
+        store.put_log(&log)?;
+        let recovery = store.recover()?;
+        check(recovery.answer == Replayed::Applied, || format!("the log alone is {:?}", recovery.answer))?;
+        store.finish(&recovery.pages)?;
+        self.say(format!("    the file cut to the {length} bytes that the sync answered: log replayed"));
+        check_pages(&store.table()?, show)
+    }
+
     /// The whole story; how many bytes the two power cuts had left wrong.
     fn run(&mut self, folder: &Path) -> Outcome<usize> {
         let store = Store::create(folder, "show", self.chance.seed())?;
@@ -593,6 +621,7 @@ impl Round<'_> {
         let wanted = undisturbed.table()?;
 
         let (synced, pages) = store.prepare(store.start(OPENED)?, &opening)?;
+        let longest = store.log()?;
         store.finish(&pages)?;
         self.say(format!("sync {OPENED}: {OPENING} questions, a log of {} bytes; all written out", synced.length));
         let (synced, pages) = store.prepare(store.start(TONIGHT)?, &evening)?;
@@ -609,6 +638,7 @@ impl Round<'_> {
         store.finish(&pages)?;
         self.check_end(&store, &show, &wanted)?;
         self.accident(folder, &store, &mut show)?;
+        self.written_over(&store, &mut show, &longest)?;
         Ok(first + second)
     }
 }

@@ -119,7 +119,8 @@ pub struct Lent<'a> {
 pub struct Synced {
     /// How many buckets are full.
     pub occupied: u64,
-    /// The log's length; it starts the lent slice.
+    /// The log's length; it starts the lent slice. What stands behind it there stays, and is not the log's: keep and
+    /// lend these bytes alone.
     pub length: usize,
 }
 

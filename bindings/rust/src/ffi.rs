@@ -7,6 +7,7 @@
 use crate::{
     change::{Change, Lent},
     diff::{Diff, Node, Packed, SLOTS},
+    log::AfterEnd,
 };
 
 /// 0, or the refusal's number; and a value, 0 where there is none.
@@ -213,7 +214,9 @@ mod library {
         pub(super) fn bitbox_reader_first(log: *const u8, log_len: usize) -> usize;
         pub(super) fn bitbox_reader_seed(log: *const u8, log_len: usize, seed: &mut [u8; 16]);
         pub(super) fn bitbox_reader_next(log: *const u8, log_len: usize, at: usize, edition: u32) -> Entry;
+        pub(super) fn bitbox_reader_next_tolerant(log: *const u8, log_len: usize, at: usize, edition: u32) -> Entry;
         pub(super) fn bitbox_reader_head(log: *const u8, log_len: usize, at: usize, edition: u32) -> Head;
+        pub(super) fn bitbox_reader_head_tolerant(log: *const u8, log_len: usize, at: usize, edition: u32) -> Head;
         pub(super) fn bitbox_begin(log: *mut u8, log_len: usize, w: WriterState, start: LogStart) -> Written;
         pub(super) fn bitbox_write_clear(log: *mut u8, log_len: usize, w: WriterState, bucket: u64) -> Written;
         pub(super) fn bitbox_write_update(log: *mut u8, log_len: usize, w: WriterState, id: &[u8; 32], lo: u64, hi: u64, nodes: &[[u8; 32]; 126], count: usize, elided: &[u8; 8], bucket: u64) -> Written;
@@ -223,7 +226,9 @@ mod library {
         pub(super) fn bitbox_sync(tags: *mut u8, tags_len: usize, marks: *mut u8, marks_len: usize, cells: *mut u64, cells_len: usize, log: *mut u8, log_len: usize, pages: *const u8, pages_len: usize, changes: *const Change, changes_len: usize, n: usize, w: WriterState, start: LogStart) -> SyncAnswer;
 
         pub(super) fn bitbox_replay(image: *mut u8, image_len: usize, n: usize, log: *const u8, log_len: usize, sync_seqn: u32, seed: &[u8; 16], hashes: *const u64, hashes_len: usize) -> Answer;
+        pub(super) fn bitbox_replay_tolerant(image: *mut u8, image_len: usize, n: usize, log: *const u8, log_len: usize, sync_seqn: u32, seed: &[u8; 16], hashes: *const u64, hashes_len: usize) -> Answer;
         pub(super) fn bitbox_replay_step(image: *mut u8, image_len: usize, n: usize, log: *const u8, log_len: usize, edition: u32, at: usize, hash: u64) -> Stepped;
+        pub(super) fn bitbox_replay_step_tolerant(image: *mut u8, image_len: usize, n: usize, log: *const u8, log_len: usize, edition: u32, at: usize, hash: u64) -> Stepped;
 
         pub(super) fn bitbox_write_marker(old: u32, new: u32) -> MarkerBytes;
         pub(super) fn bitbox_read_marker(bytes: *const u8, bytes_len: usize) -> Marker;
@@ -377,12 +382,20 @@ pub(crate) fn reader_seed(log: &[u8]) -> [u8; 16] {
     seed
 }
 
-pub(crate) fn reader_next(log: &[u8], at: usize, edition: u32) -> Entry {
-    unsafe { library::bitbox_reader_next(log.as_ptr(), log.len(), at, edition) }
+pub(crate) fn reader_next(log: &[u8], at: usize, edition: u32, rule: AfterEnd) -> Entry {
+    let next = match rule {
+        AfterEnd::Zeros => library::bitbox_reader_next,
+        AfterEnd::Tolerant => library::bitbox_reader_next_tolerant,
+    };
+    unsafe { next(log.as_ptr(), log.len(), at, edition) }
 }
 
-pub(crate) fn reader_head(log: &[u8], at: usize, edition: u32) -> Head {
-    unsafe { library::bitbox_reader_head(log.as_ptr(), log.len(), at, edition) }
+pub(crate) fn reader_head(log: &[u8], at: usize, edition: u32, rule: AfterEnd) -> Head {
+    let head = match rule {
+        AfterEnd::Zeros => library::bitbox_reader_head,
+        AfterEnd::Tolerant => library::bitbox_reader_head_tolerant,
+    };
+    unsafe { head(log.as_ptr(), log.len(), at, edition) }
 }
 
 pub(crate) fn begin(log: &mut [u8], w: WriterState, start: LogStart) -> Written {
@@ -467,15 +480,32 @@ pub(crate) fn replay(
     sync_seqn: u32,
     seed: &[u8; 16],
     hashes: &[u64],
+    rule: AfterEnd,
 ) -> Answer {
+    let replay = match rule {
+        AfterEnd::Zeros => library::bitbox_replay,
+        AfterEnd::Tolerant => library::bitbox_replay_tolerant,
+    };
     let (image, len) = (image.as_mut_ptr(), image.len());
     let (log, log_len) = (log.as_ptr(), log.len());
-    unsafe { library::bitbox_replay(image, len, n, log, log_len, sync_seqn, seed, hashes.as_ptr(), hashes.len()) }
+    unsafe { replay(image, len, n, log, log_len, sync_seqn, seed, hashes.as_ptr(), hashes.len()) }
 }
 
-pub(crate) fn replay_step(image: &mut [u8], n: usize, log: &[u8], edition: u32, at: usize, hash: u64) -> Stepped {
+pub(crate) fn replay_step(
+    image: &mut [u8],
+    n: usize,
+    log: &[u8],
+    edition: u32,
+    at: usize,
+    hash: u64,
+    rule: AfterEnd,
+) -> Stepped {
+    let step = match rule {
+        AfterEnd::Zeros => library::bitbox_replay_step,
+        AfterEnd::Tolerant => library::bitbox_replay_step_tolerant,
+    };
     let (image, len) = (image.as_mut_ptr(), image.len());
-    unsafe { library::bitbox_replay_step(image, len, n, log.as_ptr(), log.len(), edition, at, hash) }
+    unsafe { step(image, len, n, log.as_ptr(), log.len(), edition, at, hash) }
 }
 
 pub(crate) fn write_marker(old: u32, new: u32) -> MarkerBytes {

@@ -22,6 +22,8 @@
 //! - A **log** is what a sync writes and a replay reads: [`Reader`], [`LogWriter`]. It says which sync it is
 //!   of, by a number, and of which store, by the store's [`Seed`]. That is a log of edition two, which
 //!   [`Start::two`] begins. Those of edition one, which may lie there from before, do not name their store.
+//!   Reader and replay want zeros after a log's end, up to the end of what is lent; the calls whose names end in
+//!   `_tolerant`, and [`Reader::tolerant`], take what is there.
 //!
 //! The [`guide`] has a sync and a recovery with files from start to end, and what to do about each refusal.
 //!
@@ -77,11 +79,11 @@ pub use change::{sync, sync_step, Change, Lent, State, Step, SyncRefused, Synced
 pub use diff::{Diff, Node, Packed, NODE, SLOTS};
 pub use growth::{grow, pending, read_marker, write_marker, Grown, Marker, Pending};
 pub use log::{
-    read_entry, read_head, see_entry, Elided, Entries, Entry, EntryRef, Head, LogWriter, PageId, Reader, Update,
-    UpdateRef, Writer,
+    read_entry, read_entry_tolerant, read_head, read_head_tolerant, see_entry, see_entry_tolerant, Elided, Entries,
+    Entry, EntryRef, Head, LogWriter, PageId, Reader, Update, UpdateRef, Writer,
 };
 pub use path::{allocate, lookup, probe, Found, Probed};
-pub use recover::{replay, replay_step, Replayed, Stepped};
+pub use recover::{replay, replay_step, replay_step_tolerant, replay_tolerant, Replayed, Stepped};
 pub use refusal::Refusal;
 pub use start::{first_entry, Edition, Seed, Start};
 pub use table::{

@@ -56,15 +56,42 @@ impl Entry {
     }
 }
 
+/// What is wanted after the end of a log, up to the end of what is lent.
+#[derive(Clone, Copy, Debug)]
+pub(crate) enum AfterEnd {
+    /// Zeros.
+    Zeros,
+    /// Anything: the rule of the calls whose names end in `_tolerant`.
+    Tolerant,
+}
+
 /// The entry that stands at a position of a log, and where the next one stands; after the end stands the
 /// end. [`Edition::of`] and [`first_entry`] tell the log's edition and its first position; a [`Reader`] knows both.
+///
+/// At the end, all bytes after it are wanted to be zero, up to the end of the slice: lend a log and nothing behind it,
+/// which is as many bytes as [`Writer::finish`] or a sync answered.
 ///
 /// # Errors
 ///
 /// [`LogCut`](Refusal::LogCut), [`TagUnknown`](Refusal::TagUnknown),
-/// [`DiffReserved`](Refusal::DiffReserved), as the first byte that is wrong has it.
+/// [`DiffReserved`](Refusal::DiffReserved), as the first byte that is wrong has it; in place of the end
+/// [`AfterEndUsed`](Refusal::AfterEndUsed).
 pub fn read_entry(log: &[u8], at: usize, edition: Edition) -> Result<(Entry, usize), Refusal> {
-    let e = ffi::reader_next(log, at, edition.number());
+    entry_by(log, at, edition, AfterEnd::Zeros)
+}
+
+/// What [`read_entry`] gives, whatever follows the end: for logs that have something there, as a label, and for what
+/// only shows a log.
+///
+/// # Errors
+///
+/// Those of [`read_entry`], without [`AfterEndUsed`](Refusal::AfterEndUsed).
+pub fn read_entry_tolerant(log: &[u8], at: usize, edition: Edition) -> Result<(Entry, usize), Refusal> {
+    entry_by(log, at, edition, AfterEnd::Tolerant)
+}
+
+fn entry_by(log: &[u8], at: usize, edition: Edition, rule: AfterEnd) -> Result<(Entry, usize), Refusal> {
+    let e = ffi::reader_next(log, at, edition.number(), rule);
     said(e.refusal)?;
     let entry = match e.kind {
         0 => Entry::End,
@@ -105,7 +132,20 @@ pub enum Head {
 ///
 /// Those of [`read_entry`].
 pub fn read_head(log: &[u8], at: usize, edition: Edition) -> Result<Head, Refusal> {
-    let ffi::Head { refusal, kind, bucket, count, next } = ffi::reader_head(log, at, edition.number());
+    head_by(log, at, edition, AfterEnd::Zeros)
+}
+
+/// What [`read_head`] gives, whatever follows the end.
+///
+/// # Errors
+///
+/// Those of [`read_entry_tolerant`].
+pub fn read_head_tolerant(log: &[u8], at: usize, edition: Edition) -> Result<Head, Refusal> {
+    head_by(log, at, edition, AfterEnd::Tolerant)
+}
+
+fn head_by(log: &[u8], at: usize, edition: Edition, rule: AfterEnd) -> Result<Head, Refusal> {
+    let ffi::Head { refusal, kind, bucket, count, next } = ffi::reader_head(log, at, edition.number(), rule);
     said(refusal)?;
     let next = position(next);
     Ok(match kind {
@@ -184,7 +224,20 @@ impl EntryRef<'_> {
 ///
 /// Those of [`read_entry`].
 pub fn see_entry(log: &[u8], at: usize, edition: Edition) -> Result<(EntryRef<'_>, usize), Refusal> {
-    match read_head(log, at, edition)? {
+    seen_by(log, at, edition, AfterEnd::Zeros)
+}
+
+/// What [`see_entry`] gives, whatever follows the end.
+///
+/// # Errors
+///
+/// Those of [`read_entry_tolerant`].
+pub fn see_entry_tolerant(log: &[u8], at: usize, edition: Edition) -> Result<(EntryRef<'_>, usize), Refusal> {
+    seen_by(log, at, edition, AfterEnd::Tolerant)
+}
+
+fn seen_by(log: &[u8], at: usize, edition: Edition, rule: AfterEnd) -> Result<(EntryRef<'_>, usize), Refusal> {
+    match head_by(log, at, edition, rule)? {
         Head::End => Ok((EntryRef::End, at)),
         Head::Clear { bucket, next } => Ok((EntryRef::Clear { bucket }, next)),
         // An update that is answered is in the log.
@@ -205,6 +258,9 @@ pub(crate) fn position(at: u64) -> usize {
 /// As an iterator it gives the clears and updates and ends after the last; a refusal is given once and
 /// ends it too. [`Reader::entries`] does so and copies nothing. [`Reader::read_entry`] gives the end as an
 /// entry.
+///
+/// On coming to the end it wants zeros after it, up to the end of the lent log, and is refused with
+/// [`AfterEndUsed`](Refusal::AfterEndUsed) where there is another byte. [`Reader::tolerant`] takes what is there.
 ///
 /// ```
 /// use bitbox::{Entry, LogWriter, Reader, Start};
@@ -227,6 +283,7 @@ pub struct Reader<'a> {
     log: &'a [u8],
     at: usize,
     start: Start,
+    rule: AfterEnd,
     over: bool,
 }
 
@@ -242,7 +299,27 @@ impl<'a> Reader<'a> {
         said(answer.refusal)?;
         // A log has the number in four bytes, so it fits.
         let sync_seqn = u32::try_from(answer.value).unwrap_or(u32::MAX);
-        Ok(Reader { log, at: first_entry(log), start: Start::told(log, sync_seqn), over: false })
+        let start = Start::told(log, sync_seqn);
+        Ok(Reader { log, at: first_entry(log), start, rule: AfterEnd::Zeros, over: false })
+    }
+
+    /// The same reader, which takes whatever follows the end.
+    ///
+    /// ```
+    /// use bitbox::{LogWriter, Reader, Refusal, Start};
+    ///
+    /// # fn main() -> Result<(), Refusal> {
+    /// let mut memory = [0; 4096];
+    /// LogWriter::begin(&mut memory, Start::two(7, *b"of one recording"))?.finish()?;
+    /// memory[4090..].copy_from_slice(b"take 3");
+    /// assert_eq!(Reader::new(&memory)?.last(), Some(Err(Refusal::AfterEndUsed)));
+    /// assert_eq!(Reader::new(&memory)?.tolerant().last(), None);
+    /// # Ok(())
+    /// # }
+    /// ```
+    #[must_use]
+    pub const fn tolerant(self) -> Reader<'a> {
+        Reader { rule: AfterEnd::Tolerant, ..self }
     }
 
     /// What the log starts with.
@@ -274,18 +351,18 @@ impl<'a> Reader<'a> {
     ///
     /// # Errors
     ///
-    /// Those of [`read_entry`].
+    /// Those of [`read_entry`], or where it is [`tolerant`](Reader::tolerant) of [`read_entry_tolerant`].
     pub fn peek(&self) -> Result<Entry, Refusal> {
-        read_entry(self.log, self.at, self.edition()).map(|(entry, _)| entry)
+        entry_by(self.log, self.at, self.edition(), self.rule).map(|(entry, _)| entry)
     }
 
     /// The next entry. At the end and at a refusal the reader stays where it is and answers the same again.
     ///
     /// # Errors
     ///
-    /// Those of the function [`read_entry`].
+    /// Those of [`peek`](Reader::peek).
     pub fn read_entry(&mut self) -> Result<Entry, Refusal> {
-        let (entry, next) = read_entry(self.log, self.at, self.edition())?;
+        let (entry, next) = entry_by(self.log, self.at, self.edition(), self.rule)?;
         self.at = next;
         Ok(entry)
     }
@@ -294,9 +371,9 @@ impl<'a> Reader<'a> {
     ///
     /// # Errors
     ///
-    /// Those of the function [`read_entry`].
+    /// Those of [`peek`](Reader::peek).
     pub fn see_entry(&mut self) -> Result<EntryRef<'a>, Refusal> {
-        let (entry, next) = see_entry(self.log, self.at, self.edition())?;
+        let (entry, next) = seen_by(self.log, self.at, self.edition(), self.rule)?;
         self.at = next;
         Ok(entry)
     }
@@ -436,7 +513,8 @@ impl Writer {
         self.moved(ffi::write_update(log, self.state(), id, *diff, nodes, elided, *bucket)).map(|_| ())
     }
 
-    /// Finishes the log, which then is the first bytes of the slice, as many as are answered.
+    /// Finishes the log, which then is the first bytes of the slice, as many as are answered. Bytes of the slice behind
+    /// them stay as they were, and are not the log's: lend them to no reader and no replay.
     ///
     /// # Errors
     ///

@@ -1,6 +1,11 @@
 //! Replay: a sync's log, taken into the table's image after a stop.
 
-use crate::{ffi, log::position, refusal::said, Edition, Refusal, Seed};
+use crate::{
+    ffi,
+    log::{position, AfterEnd},
+    refusal::said,
+    Edition, Refusal, Seed,
+};
 
 /// What a replay comes to.
 #[derive(Clone, Copy, Debug, PartialEq, Eq, Hash)]
@@ -19,6 +24,9 @@ pub enum Replayed {
 ///
 /// `sync_seqn` and `seed` are the store's own. A log of edition two that names another seed is refused. **One of
 /// edition one names none**: it is taken if it has the same sync number, whichever store's it is.
+///
+/// After the log's end zeros are wanted, up to the end of `log`: lend exactly as many bytes as the sync answered. What
+/// else stands there may be entries of a longer log that this one was written over. [`replay_tolerant`] does not look.
 ///
 /// ```
 /// use bitbox::*;
@@ -61,7 +69,8 @@ pub enum Replayed {
 /// In this order: [`TableUnfit`](Refusal::TableUnfit), [`LogNotPages`](Refusal::LogNotPages),
 /// [`NoStart`](Refusal::NoStart), [`OtherStore`](Refusal::OtherStore); then, unless the log is stale, those of the
 /// first bad entry, [`LogCut`](Refusal::LogCut), [`DiffReserved`](Refusal::DiffReserved),
-/// [`TagUnknown`](Refusal::TagUnknown) or [`BucketOutside`](Refusal::BucketOutside); last
+/// [`TagUnknown`](Refusal::TagUnknown) or [`BucketOutside`](Refusal::BucketOutside); then
+/// [`AfterEndUsed`](Refusal::AfterEndUsed): a byte after the end is not zero; last
 /// [`LengthUnfit`](Refusal::LengthUnfit): there are not as many hashes as updates.
 pub fn replay(
     image: &mut [u8],
@@ -71,7 +80,36 @@ pub fn replay(
     seed: &Seed,
     hashes: &[u64],
 ) -> Result<Replayed, Refusal> {
-    let answer = ffi::replay(image, n, log, sync_seqn, seed, hashes);
+    replay_by(image, n, log, sync_seqn, seed, hashes, AfterEnd::Zeros)
+}
+
+/// What [`replay`] does, whatever follows the log's end: for logs that have something there, as a label. Where both are
+/// applied they leave the same image.
+///
+/// # Errors
+///
+/// Those of [`replay`] in its order, without [`AfterEndUsed`](Refusal::AfterEndUsed).
+pub fn replay_tolerant(
+    image: &mut [u8],
+    n: usize,
+    log: &[u8],
+    sync_seqn: u32,
+    seed: &Seed,
+    hashes: &[u64],
+) -> Result<Replayed, Refusal> {
+    replay_by(image, n, log, sync_seqn, seed, hashes, AfterEnd::Tolerant)
+}
+
+fn replay_by(
+    image: &mut [u8],
+    n: usize,
+    log: &[u8],
+    sync_seqn: u32,
+    seed: &Seed,
+    hashes: &[u64],
+    rule: AfterEnd,
+) -> Result<Replayed, Refusal> {
+    let answer = ffi::replay(image, n, log, sync_seqn, seed, hashes, rule);
     said(answer.refusal)?;
     Ok(match answer.value {
         0 => Replayed::Nothing,
@@ -99,11 +137,13 @@ pub enum Stepped {
 }
 
 /// Takes the entry at a position of a log of this edition into a table's image; `hash` is that of an update's page.
-/// Neither the log's number nor its seed is looked at: that is [`replay`]'s, which looks before its first step.
+/// Neither the log's number nor its seed is looked at: that is [`replay`]'s, which looks before its first step. What
+/// follows the log's end is looked at where the step comes to the end, and not before: what earlier steps did stays.
 ///
 /// # Errors
 ///
-/// In this order: [`TableUnfit`](Refusal::TableUnfit); those of the entry, as [`replay`] has them.
+/// In this order: [`TableUnfit`](Refusal::TableUnfit); those of the entry, as [`replay`] has them; in place of
+/// [`Stepped::End`] [`AfterEndUsed`](Refusal::AfterEndUsed).
 pub fn replay_step(
     image: &mut [u8],
     n: usize,
@@ -112,7 +152,35 @@ pub fn replay_step(
     at: usize,
     hash: u64,
 ) -> Result<Stepped, Refusal> {
-    let ffi::Stepped { refusal, kind, next } = ffi::replay_step(image, n, log, edition.number(), at, hash);
+    step_by(image, n, log, edition, at, hash, AfterEnd::Zeros)
+}
+
+/// What [`replay_step`] does, whatever follows the log's end.
+///
+/// # Errors
+///
+/// Those of [`replay_step`], without [`AfterEndUsed`](Refusal::AfterEndUsed).
+pub fn replay_step_tolerant(
+    image: &mut [u8],
+    n: usize,
+    log: &[u8],
+    edition: Edition,
+    at: usize,
+    hash: u64,
+) -> Result<Stepped, Refusal> {
+    step_by(image, n, log, edition, at, hash, AfterEnd::Tolerant)
+}
+
+fn step_by(
+    image: &mut [u8],
+    n: usize,
+    log: &[u8],
+    edition: Edition,
+    at: usize,
+    hash: u64,
+    rule: AfterEnd,
+) -> Result<Stepped, Refusal> {
+    let ffi::Stepped { refusal, kind, next } = ffi::replay_step(image, n, log, edition.number(), at, hash, rule);
     said(refusal)?;
     let next = position(next);
     Ok(match kind {

@@ -84,6 +84,7 @@ refusals! {
     23 EmptyFirst "A page's path meets an empty bucket before its own.";
     24 NotReached "A page's path never comes to its bucket.";
     26 OtherStore "The log is of another store: it names another seed than this table's.";
+    27 AfterEndUsed "A byte after the log's end is not zero.";
 }
 
 impl fmt::Display for Refusal {

@@ -4,12 +4,12 @@ use bitbox::Refusal;
 use std::error::Error;
 
 #[test]
-fn numbers_are_1_to_24_and_26() {
-    assert!(Refusal::all().map(Refusal::number).eq((1..=24).chain([26])));
+fn numbers_are_1_to_24_then_26_and_27() {
+    assert!(Refusal::all().map(Refusal::number).eq((1..=24).chain([26, 27])));
     for refusal in Refusal::all() {
         assert_eq!(Refusal::from_number(refusal.number()), Some(refusal));
     }
-    for none in [0, 25, 27, 255] {
+    for none in [0, 25, 28, 255] {
         assert_eq!(Refusal::from_number(none), None);
     }
 }
