@@ -84,6 +84,9 @@ departures! {
     REPLAY_PAST: "replay" Each "replay: a bucket at or above the padded length panics (01: 9)";
     REPLAY_WRITTEN: "replay" Each "replay: refused, and pages of earlier updates are written (01: unchanged)";
 
+    READER_AFTER_END: "after" Each "reader: what follows end is not looked at (02: 27)";
+    REPLAY_AFTER_END: "after" Each "replay: what follows end is not looked at (02: 27)";
+
     MARKER_ANY_COUNTS: "growth" Each "marker write: any counts are written (01: 17)";
     PENDING_ANY_COUNT: "growth" Each "pending: counts have no upper limit (01: 1)";
     GROWTH_FROM_0: "growth" Each "growth: from 0 buckets is accepted (01: 1)";

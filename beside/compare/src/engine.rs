@@ -6,6 +6,7 @@ use terms::*;
 /// The terms that calls are asked and answered in.
 pub mod terms {
     pub use model::{
+        after_end::AfterEnd,
         audit::Audited,
         diff::{Diff, Node, Packed},
         edition::{Edition, Seed, Start},
@@ -67,9 +68,9 @@ pub trait Engine {
     fn allocate(tags: &mut [u8], n: u64, hash: u64) -> Answer<u64>;
 
     fn reader_set(log: &[u8]) -> Answer<Start>;
-    fn reader_next(log: &[u8], edition: Edition, at: u64) -> Answer<(Entry, u64)>;
+    fn reader_next(log: &[u8], edition: Edition, at: u64, after: AfterEnd) -> Answer<(Entry, u64)>;
     /// An entry without its fields.
-    fn reader_head(log: &[u8], edition: Edition, at: u64) -> Answer<Head>;
+    fn reader_head(log: &[u8], edition: Edition, at: u64, after: AfterEnd) -> Answer<Head>;
 
     fn begin(log: &mut [u8], w: Writer, start: Start) -> Answer<Writer>;
     fn write_clear(log: &mut [u8], w: Writer, bucket: u64) -> Answer<Writer>;
@@ -87,8 +88,24 @@ pub trait Engine {
     fn sync_step(lent: &mut Lent, state: State, change: &Change, page: &[u8]) -> Answer<(Step, State)>;
     fn sync(lent: &mut Lent, writer: &mut Writer, start: Start, changes: &[Change], pages: &[u8]) -> Synced;
 
-    fn replay(image: &mut [u8], n: u64, log: &[u8], sync: u32, seed: &Seed, hashes: &[u64]) -> Answer<Replayed>;
-    fn replay_step(image: &mut [u8], n: u64, log: &[u8], edition: Edition, at: u64, hash: u64) -> Answer<Stepped>;
+    fn replay(
+        image: &mut [u8],
+        n: u64,
+        log: &[u8],
+        sync: u32,
+        seed: &Seed,
+        hashes: &[u64],
+        after: AfterEnd,
+    ) -> Answer<Replayed>;
+    fn replay_step(
+        image: &mut [u8],
+        n: u64,
+        log: &[u8],
+        edition: Edition,
+        at: u64,
+        hash: u64,
+        after: AfterEnd,
+    ) -> Answer<Stepped>;
 
     fn write_marker(old: u32, new: u32) -> Answer<[u8; 16]>;
     fn read_marker(bytes: &[u8]) -> Answer<(u32, u32)>;
@@ -214,12 +231,12 @@ impl Engine for Model {
         model::reader::set(log)
     }
 
-    fn reader_next(log: &[u8], edition: Edition, at: u64) -> Answer<(Entry, u64)> {
-        model::reader::next(log, edition, at)
+    fn reader_next(log: &[u8], edition: Edition, at: u64, after: AfterEnd) -> Answer<(Entry, u64)> {
+        model::reader::next(log, edition, at, after)
     }
 
-    fn reader_head(log: &[u8], edition: Edition, at: u64) -> Answer<Head> {
-        model::reader::next(log, edition, at).map(|(entry, after)| head_of(&entry, after))
+    fn reader_head(log: &[u8], edition: Edition, at: u64, after: AfterEnd) -> Answer<Head> {
+        model::reader::next(log, edition, at, after).map(|(entry, next)| head_of(&entry, next))
     }
 
     fn begin(log: &mut [u8], _w: Writer, start: Start) -> Answer<Writer> {
@@ -254,12 +271,28 @@ impl Engine for Model {
         model::sync::sync(lent, writer, start, changes, pages)
     }
 
-    fn replay(image: &mut [u8], n: u64, log: &[u8], sync: u32, seed: &Seed, hashes: &[u64]) -> Answer<Replayed> {
-        model::replay::replay(image, n, log, sync, seed, hashes)
+    fn replay(
+        image: &mut [u8],
+        n: u64,
+        log: &[u8],
+        sync: u32,
+        seed: &Seed,
+        hashes: &[u64],
+        after: AfterEnd,
+    ) -> Answer<Replayed> {
+        model::replay::replay(image, n, log, sync, seed, hashes, after)
     }
 
-    fn replay_step(image: &mut [u8], n: u64, log: &[u8], edition: Edition, at: u64, hash: u64) -> Answer<Stepped> {
-        model::replay::step(image, n, log, edition, at, hash)
+    fn replay_step(
+        image: &mut [u8],
+        n: u64,
+        log: &[u8],
+        edition: Edition,
+        at: u64,
+        hash: u64,
+        after: AfterEnd,
+    ) -> Answer<Stepped> {
+        model::replay::step(image, n, log, edition, at, hash, after)
     }
 
     fn write_marker(old: u32, new: u32) -> Answer<[u8; 16]> {

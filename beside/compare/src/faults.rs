@@ -10,6 +10,7 @@ use original::{
 use std::{
     any::Any,
     marker::PhantomData,
+    ops::Range,
     sync::atomic::{AtomicUsize, Ordering},
 };
 
@@ -64,7 +65,7 @@ const fn fault(side: Side, part: &'static str, call: &'static str, says: &'stati
 
 use Side::*;
 
-pub const FAULTS: [Fault; 49] = [
+pub const FAULTS: [Fault; 65] = [
     fault(Ours, "diff", "pack", "the count of packed nodes is one more", |c| {
         c.said::<Answer<Packed>>().iter_mut().for_each(|p| p.count += 1)
     }),
@@ -128,7 +129,7 @@ pub const FAULTS: [Fault; 49] = [
         if matches!(c.said::<(Synced, Writer)>().0, Synced::RefusedAt { .. }) {
             let log = c.lent(2);
             let mut at = Edition::One.first();
-            while let Ok((entry, next)) = model::reader::next(log, Edition::One, at) {
+            while let Ok((entry, next)) = model::reader::next(log, Edition::One, at, AfterEnd::Tolerant) {
                 at = next;
                 if entry == Entry::End {
                     break;
@@ -199,7 +200,7 @@ pub const FAULTS: [Fault; 49] = [
     fault(Original, "sync", "sync", "an update sets the tag of a known bucket", |c| {
         let (_, left) = c.said::<(Said<Prepared>, Left)>();
         let mut at = Edition::One.first();
-        while let Ok((entry, next)) = model::reader::next(&left.log, Edition::One, at) {
+        while let Ok((entry, next)) = model::reader::next(&left.log, Edition::One, at, AfterEnd::Tolerant) {
             match entry {
                 Entry::End => break,
                 Entry::Update { id, bucket, .. } if bucket < left.tags.len() as u64 => {
@@ -275,7 +276,7 @@ pub const FAULTS: [Fault; 49] = [
         let (at, two) = (c.facts[0], c.facts[1] == 2);
         let said = c.said::<Answer<(Entry, u64)>>();
         if two && *said == Err(Refused(8)) {
-            *said = model::reader::next(&log, Edition::One, at);
+            *said = model::reader::next(&log, Edition::One, at, AfterEnd::Tolerant);
         }
     }),
     fault(Alike, "second", "reader_next", "a 0xB2 as the last byte is 8", |c| {
@@ -293,7 +294,140 @@ pub const FAULTS: [Fault; 49] = [
     fault(Ours, "second", "reader_set", "the seed of a log is read as zeros", |c| {
         c.said::<Answer<Start>>().iter_mut().filter_map(|start| start.seed.as_mut()).for_each(|seed| *seed = [0; 16])
     }),
+    fault(Ours, "after", "reader_next", "what follows end is not looked at", |c| reader_sees(c, |_, from| from..from)),
+    fault(Alike, "after", "reader_next", "after end it looks up to the next multiple of 4,096 alone", |c| {
+        reader_sees(c, to_page)
+    }),
+    fault(Alike, "after", "reader_next", "the byte right after end is not looked at", |c| {
+        reader_sees(c, |log, from| from + 1..log.len())
+    }),
+    fault(Alike, "after", "reader_next", "the log's last byte is not looked at", |c| {
+        reader_sees(c, |log, from| from..log.len() - 1)
+    }),
+    fault(Alike, "after", "reader_next", "in edition two the tag of end counts as after end", |c| {
+        let (two, zeros) = (c.facts[1] == 2, c.facts[2] == 1);
+        let said = c.said::<Answer<(Entry, u64)>>();
+        if two && zeros && matches!(said, Ok((Entry::End, _))) {
+            *said = Err(Refused(27));
+        }
+    }),
+    fault(Alike, "after", "reader_next", "the tolerant reader wants zeros too", |c| {
+        let from = c.facts[0] + c.facts[1];
+        let used = c.lent(0).get(from as usize..).is_some_and(|after| after.iter().any(|&byte| byte != 0));
+        let said = c.said::<Answer<(Entry, u64)>>();
+        if used && matches!(said, Ok((Entry::End, _))) {
+            *said = Err(Refused(27));
+        }
+    }),
+    fault(Ours, "after", "reader_head", "what follows end is not looked at where no field is read", |c| {
+        let said = c.said::<Answer<Head>>();
+        if *said == Err(Refused(27)) {
+            *said = Ok([0; 4]);
+        }
+    }),
+    fault(Alike, "after", "list", "a byte after end is refused with 27", |c| {
+        let used = used(c.lent(0));
+        let lines = c.said::<String>();
+        if used && lines.ends_with(" end\n") {
+            lines.truncate(lines.len() - 4);
+            *lines += "refused 27\n";
+        }
+    }),
+    fault(Ours, "after", "replay", "what follows end is not looked at", |c| replay_sees(c, |_, from| from..from)),
+    fault(Alike, "after", "replay", "after end it looks up to the next multiple of 4,096 alone", |c| {
+        replay_sees(c, to_page)
+    }),
+    fault(Alike, "after", "replay", "the hash count comes before what follows end", |c| {
+        let updates = crate::input::log_hashes(c.lent(1)).len() as u64;
+        let hashes = c.facts[2];
+        let said = c.said::<Answer<Replayed>>();
+        if *said == Err(Refused(27)) && hashes != updates {
+            *said = Err(Refused(2));
+        }
+    }),
+    fault(Alike, "after", "replay", "what follows end comes before stale", |c| {
+        let used = c.facts[3] == 1 && used(c.lent(1));
+        let said = c.said::<Answer<Replayed>>();
+        if used && *said == Ok(Replayed::Stale) {
+            *said = Err(Refused(27));
+        }
+    }),
+    fault(Alike, "after", "replay", "what follows end comes before a bucket outside the table", |c| {
+        let used = c.facts[3] == 1 && used(c.lent(1));
+        let said = c.said::<Answer<Replayed>>();
+        if used && *said == Err(Refused(9)) {
+            *said = Err(Refused(27));
+        }
+    }),
+    fault(Ours, "after", "replay", "a replay that is refused with 27 has done its entries", |c| {
+        if *c.said::<Answer<Replayed>>() == Err(Refused(27)) {
+            tolerant(c);
+            *c.said::<Answer<Replayed>>() = Err(Refused(27));
+        }
+    }),
+    fault(Alike, "after", "replay_step", "what follows end is not looked at in a step", |c| {
+        let said = c.said::<Answer<Stepped>>();
+        if *said == Err(Refused(27)) {
+            *said = Ok(Stepped::End);
+        }
+    }),
+    fault(Original, "after", "reader next", "what follows end is another entry", |c| {
+        let said = c.said::<Result<Said<(Entry, u64)>, String>>();
+        if let Ok(Ok((entry @ Entry::End, _))) = said {
+            *entry = Entry::Clear { bucket: 0 };
+        }
+    }),
 ];
+
+/// What the default call wants after end, as a number.
+fn zeros(after: AfterEnd) -> u64 {
+    (after == AfterEnd::Zeros) as u64
+}
+
+/// Where the default reader answers 27, it answers end if what it sees after end is zeros: `seen` of the log, from the
+/// byte right after end's mark on.
+fn reader_sees(c: &mut Call, seen: fn(&[u8], usize) -> Range<usize>) {
+    let (at, width) = (c.facts[0], c.facts[1]);
+    let log = c.lent(0).to_vec();
+    let said = c.said::<Answer<(Entry, u64)>>();
+    if *said == Err(Refused(27)) && log[seen(&log, (at + width) as usize)].iter().all(|&byte| byte == 0) {
+        *said = Ok((Entry::End, at));
+    }
+}
+
+/// The same of replay, which then goes on as the tolerant call does.
+fn replay_sees(c: &mut Call, seen: fn(&[u8], usize) -> Range<usize>) {
+    let log = c.lent(1).to_vec();
+    let from = log.len() - follows(&log).map_or(0, |after| after.len());
+    if *c.said::<Answer<Replayed>>() == Err(Refused(27)) && log[seen(&log, from)].iter().all(|&byte| byte == 0) {
+        tolerant(c);
+    }
+}
+
+/// What stands after the end of a log.
+fn follows(log: &[u8]) -> Option<&[u8]> {
+    let edition = Edition::of(log);
+    crate::after::follows(log, edition, edition.first())
+}
+
+/// Whether a byte there is not zero.
+fn used(log: &[u8]) -> bool {
+    follows(log).is_some_and(|after| after.iter().any(|&byte| byte != 0))
+}
+
+/// A replay becomes the tolerant call's.
+fn tolerant(c: &mut Call) {
+    let (n, sync) = (c.facts[0], c.facts[1] as u32);
+    let (log, seed) = (c.lent(1).to_vec(), c.lent(2).try_into().expect("a seed"));
+    let hashes = crate::input::log_hashes(&log);
+    let said = model::replay::replay(c.lent(0), n, &log, sync, &seed, &hashes, AfterEnd::Tolerant);
+    *c.said::<Answer<Replayed>>() = said;
+}
+
+/// Up to the next multiple of 4,096.
+fn to_page(_log: &[u8], from: usize) -> Range<usize> {
+    from..from.next_multiple_of(model::PAGE)
+}
 
 /// A log of another store is replayed as if it were the table's, where its seed and the table's are such.
 fn taken_anyway(c: &mut Call, such: fn(&[u8], &[u8]) -> bool) {
@@ -304,7 +438,7 @@ fn taken_anyway(c: &mut Call, such: fn(&[u8], &[u8]) -> bool) {
     }
     let seed = log[6..22].try_into().expect("a seed");
     let hashes = crate::input::log_hashes(&log);
-    *c.said::<Answer<Replayed>>() = model::replay::replay(c.lent(0), n, &log, sync, &seed, &hashes);
+    *c.said::<Answer<Replayed>>() = model::replay::replay(c.lent(0), n, &log, sync, &seed, &hashes, AfterEnd::Tolerant);
 }
 
 /// A clear of edition two is written where it leaves so many bytes of the room.
@@ -408,8 +542,9 @@ impl<E: Engine> Engine for Bent<E> {
         lookup(image: &[u8], n: u64, hash: u64, id: &[u8; 32]) -> Answer<Found>, [n], [image, id];
         allocate(tags: &mut [u8], n: u64, hash: u64) -> Answer<u64>, [n], [tags];
         reader_set(log: &[u8]) -> Answer<Start>, [], [log];
-        reader_next(log: &[u8], edition: Edition, at: u64) -> Answer<(Entry, u64)>, [at, edition.width()], [log];
-        reader_head(log: &[u8], edition: Edition, at: u64) -> Answer<Head>, [at], [log];
+        reader_next(log: &[u8], edition: Edition, at: u64, after: AfterEnd) -> Answer<(Entry, u64)>,
+            [at, edition.width(), zeros(after)], [log];
+        reader_head(log: &[u8], edition: Edition, at: u64, after: AfterEnd) -> Answer<Head>, [at], [log];
         begin(log: &mut [u8], w: Writer, start: Start) -> Answer<Writer>, [], [log];
         write_clear(log: &mut [u8], w: Writer, bucket: u64) -> Answer<Writer>, [bucket, stands(w).0, stands(w).1], [log];
         write_update(log: &mut [u8], w: Writer, id: &[u8; 32], d: Diff, packed: &Packed, elided: &[u8; 8], bucket: u64)
@@ -417,10 +552,10 @@ impl<E: Engine> Engine for Bent<E> {
         finish(log: &mut [u8], w: Writer) -> Answer<(u64, Writer)>, [], [log];
         sync_step(lent: &mut Lent, state: State, change: &Change, page: &[u8]) -> Answer<(Step, State)>,
             [lent.n], [lent.tags, lent.marks, lent.log, page];
-        replay(image: &mut [u8], n: u64, log: &[u8], sync: u32, seed: &Seed, hashes: &[u64]) -> Answer<Replayed>,
-            [n, sync as u64], [image, log, seed];
-        replay_step(image: &mut [u8], n: u64, log: &[u8], edition: Edition, at: u64, hash: u64) -> Answer<Stepped>,
-            [n, at], [image, log];
+        replay(image: &mut [u8], n: u64, log: &[u8], sync: u32, seed: &Seed, hashes: &[u64], after: AfterEnd)
+            -> Answer<Replayed>, [n, sync as u64, hashes.len() as u64, zeros(after)], [image, log, seed];
+        replay_step(image: &mut [u8], n: u64, log: &[u8], edition: Edition, at: u64, hash: u64, after: AfterEnd)
+            -> Answer<Stepped>, [n, at], [image, log];
         write_marker(old: u32, new: u32) -> Answer<[u8; 16]>, [], [];
         read_marker(bytes: &[u8]) -> Answer<(u32, u32)>, [], [bytes];
         pending(meta: u64, file: u64, old: u64, new: u64) -> Answer<Pending>, [meta, file, old, new], [];

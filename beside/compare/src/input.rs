@@ -2,6 +2,7 @@
 
 use crate::rng::{mixed, Rng};
 use model::{
+    after_end::AfterEnd,
     diff::Diff,
     edition::{Edition, Seed},
     places::{length_of, page_at, tag_pages_of, ID_AT},
@@ -437,6 +438,19 @@ impl Log {
     }
 
     pub fn bytes(&self) -> Vec<u8> {
+        // A case asks for its log several times.
+        thread_local!(static LAST: RefCell<Option<(Log, Vec<u8>)>> = const { RefCell::new(None) });
+        LAST.with_borrow_mut(|last| match last {
+            Some((log, bytes)) if log == self => bytes.clone(),
+            _ => {
+                let bytes = self.made();
+                *last = Some((self.clone(), bytes.clone()));
+                bytes
+            }
+        })
+    }
+
+    fn made(&self) -> Vec<u8> {
         let mut log = self.written();
         let whole = log.len().next_multiple_of(PAGE) + PAGE * self.pages_more;
         log.resize(whole, 0);
@@ -526,7 +540,7 @@ pub fn log_hashes(log: &[u8]) -> Vec<u64> {
     let mut hashes = Vec::new();
     let edition = Edition::of(log);
     let mut at = edition.first();
-    while let Ok((entry, next)) = model::reader::next(log, edition, at) {
+    while let Ok((entry, next)) = model::reader::next(log, edition, at, AfterEnd::Tolerant) {
         match entry {
             model::reader::Entry::End => break,
             model::reader::Entry::Update { id, .. } => hashes.push(hash_of(id)),

@@ -1,6 +1,7 @@
 //! Compares the original, document 01 and ours: the same inputs to all, every answer and every byte
 //! held against each other.
 
+mod after;
 mod departures;
 mod engine;
 mod faults;
@@ -33,7 +34,7 @@ type Exhaustive = fn(&mut Run);
 type Random = fn(&mut Run, &mut Rng);
 
 /// The parts by name: all short inputs, inputs by chance, and how often in 100 times the part is taken.
-const PARTS: [(&str, Exhaustive, Random, u64); 12] = [
+const PARTS: [(&str, Exhaustive, Random, u64); 13] = [
     ("diff", ops::diff::exhaustive, ops::diff::random, 20),
     ("tags", ops::tags::exhaustive, ops::tags::random, 10),
     ("places", ops::places::exhaustive, ops::places::random, 5),
@@ -45,6 +46,7 @@ const PARTS: [(&str, Exhaustive, Random, u64); 12] = [
     ("growth", ops::growth::exhaustive, ops::growth::random, 5),
     ("audit", ops::audit::exhaustive, ops::audit::random, 5),
     ("second", ops::second::exhaustive, ops::second::random, 20),
+    ("after", ops::after::exhaustive, ops::after::random, 10),
     ("rounds", ops::rounds::exhaustive, ops::rounds::random, 1),
 ];
 

@@ -103,15 +103,29 @@ fn told(log: &[u8]) {
     assert!((told, first) == (Edition::of(log), told.first()), "the edition is {told:?}, the first entry at {first}");
 }
 
+type Read = Result<(bitbox::Entry, usize), bitbox::Refusal>;
+
+/// The entry at a position, by the call that wants zeros after end or by the tolerant one.
+fn read(log: &[u8], at: usize, edition: bitbox::Edition, after: AfterEnd) -> Read {
+    match after {
+        AfterEnd::Zeros => bitbox::read_entry(log, at, edition),
+        AfterEnd::Tolerant => bitbox::read_entry_tolerant(log, at, edition),
+    }
+}
+
 /// An entry that is lent out of its log is the one that is copied.
-fn seen(log: &[u8], at: usize, edition: bitbox::Edition) {
-    let same = match (bitbox::see_entry(log, at, edition), bitbox::read_entry(log, at, edition)) {
-        (Err(lent), Err(copied)) => lent == copied,
+fn seen(log: &[u8], at: usize, edition: bitbox::Edition, after: AfterEnd, copied: &Read) {
+    let lent = match after {
+        AfterEnd::Zeros => bitbox::see_entry(log, at, edition),
+        AfterEnd::Tolerant => bitbox::see_entry_tolerant(log, at, edition),
+    };
+    let same = match (lent, copied) {
+        (Err(lent), Err(copied)) => lent == *copied,
         (Ok((lent, next)), Ok((copied, after))) => {
-            next == after
+            next == *after
                 && match (lent, copied) {
                     (bitbox::EntryRef::End, bitbox::Entry::End) => true,
-                    (bitbox::EntryRef::Clear { bucket }, bitbox::Entry::Clear { bucket: b }) => bucket == b,
+                    (bitbox::EntryRef::Clear { bucket }, bitbox::Entry::Clear { bucket: b }) => bucket == *b,
                     (bitbox::EntryRef::Update(u), bitbox::Entry::Update(v)) => {
                         let fields = (u.bucket, *u.id, u.diff, *u.elided) == (v.bucket, v.id, v.diff, v.elided);
                         fields && u.count() == v.nodes.count() && u.nodes().eq(v.nodes.nodes())
@@ -122,6 +136,19 @@ fn seen(log: &[u8], at: usize, edition: bitbox::Edition) {
         _ => false,
     };
     assert!(same, "an entry lent out of a log at {at} is the one that is copied");
+}
+
+/// A reader that has come to end or to a refusal stays there and answers the same again.
+fn stays(mut reader: bitbox::Reader) {
+    loop {
+        let at = reader.position();
+        let said = reader.see_entry();
+        if matches!(said, Ok(bitbox::EntryRef::End) | Err(_)) {
+            let again = (reader.position(), reader.see_entry(), reader.position());
+            assert!(again == (at, said, at), "a reader that has stopped at {at} with {said:?} says {again:?}");
+            return;
+        }
+    }
 }
 
 impl Engine for Ours {
@@ -249,13 +276,17 @@ impl Engine for Ours {
         told(log);
         answer(bitbox::Reader::new(log), |reader| {
             assert!(reader.position() == bitbox::first_entry(log), "a reader stands at the first entry");
-            Start { sync: reader.sync_seqn(), seed: reader.seed() }
+            let start = Start { sync: reader.sync_seqn(), seed: reader.seed() };
+            stays(reader.clone());
+            stays(reader.tolerant());
+            start
         })
     }
 
-    fn reader_next(log: &[u8], e: Edition, at: u64) -> Answer<(Entry, u64)> {
-        seen(log, at as usize, our_edition(e));
-        answer(bitbox::read_entry(log, at as usize, our_edition(e)), |(entry, next)| {
+    fn reader_next(log: &[u8], e: Edition, at: u64, after: AfterEnd) -> Answer<(Entry, u64)> {
+        let said = read(log, at as usize, our_edition(e), after);
+        seen(log, at as usize, our_edition(e), after, &said);
+        answer(said, |(entry, next)| {
             let entry = match entry {
                 bitbox::Entry::End => Entry::End,
                 bitbox::Entry::Clear { bucket } => Entry::Clear { bucket },
@@ -270,8 +301,12 @@ impl Engine for Ours {
         })
     }
 
-    fn reader_head(log: &[u8], e: Edition, at: u64) -> Answer<Head> {
-        answer(bitbox::read_head(log, at as usize, our_edition(e)), |head| match head {
+    fn reader_head(log: &[u8], e: Edition, at: u64, after: AfterEnd) -> Answer<Head> {
+        let said = match after {
+            AfterEnd::Zeros => bitbox::read_head(log, at as usize, our_edition(e)),
+            AfterEnd::Tolerant => bitbox::read_head_tolerant(log, at as usize, our_edition(e)),
+        };
+        answer(said, |head| match head {
             bitbox::Head::End => [0; 4],
             bitbox::Head::Clear { bucket, next } => [1, bucket, 0, next as u64],
             bitbox::Head::Update { bucket, count, next } => [2, bucket, count as u64, next as u64],
@@ -338,16 +373,40 @@ impl Engine for Ours {
         }
     }
 
-    fn replay(image: &mut [u8], n: u64, log: &[u8], sync: u32, seed: &Seed, hashes: &[u64]) -> Answer<Replayed> {
-        answer(bitbox::replay(image, n as usize, log, sync, seed, hashes), |replayed| match replayed {
+    fn replay(
+        image: &mut [u8],
+        n: u64,
+        log: &[u8],
+        sync: u32,
+        seed: &Seed,
+        hashes: &[u64],
+        after: AfterEnd,
+    ) -> Answer<Replayed> {
+        let said = match after {
+            AfterEnd::Zeros => bitbox::replay(image, n as usize, log, sync, seed, hashes),
+            AfterEnd::Tolerant => bitbox::replay_tolerant(image, n as usize, log, sync, seed, hashes),
+        };
+        answer(said, |replayed| match replayed {
             bitbox::Replayed::Nothing => Replayed::Nothing,
             bitbox::Replayed::Stale => Replayed::Stale,
             bitbox::Replayed::Applied => Replayed::Applied,
         })
     }
 
-    fn replay_step(image: &mut [u8], n: u64, log: &[u8], e: Edition, at: u64, hash: u64) -> Answer<Stepped> {
-        let said = bitbox::replay_step(image, n as usize, log, our_edition(e), at as usize, hash);
+    fn replay_step(
+        image: &mut [u8],
+        n: u64,
+        log: &[u8],
+        e: Edition,
+        at: u64,
+        hash: u64,
+        after: AfterEnd,
+    ) -> Answer<Stepped> {
+        let (n, e, at) = (n as usize, our_edition(e), at as usize);
+        let said = match after {
+            AfterEnd::Zeros => bitbox::replay_step(image, n, log, e, at, hash),
+            AfterEnd::Tolerant => bitbox::replay_step_tolerant(image, n, log, e, at, hash),
+        };
         answer(said, |stepped| match stepped {
             bitbox::Stepped::End => Stepped::End,
             bitbox::Stepped::Cleared { next } => Stepped::Cleared { next: next as u64 },

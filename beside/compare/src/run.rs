@@ -117,6 +117,16 @@ pub trait Op {
     /// What the original does, and what 01 has to answer by it. What 01 does answer is not told here.
     fn original(input: &Self::Input) -> Heard;
 
+    /// The same input to the default call, which wants zeros after end, of one to the tolerant call.
+    fn by_default(_input: &Self::Input) -> Option<Self::Input> {
+        None
+    }
+
+    /// What is heard of it by what was heard of that one.
+    fn heard_by_default(_input: &Self::Input, tolerant: Heard) -> Heard {
+        tolerant
+    }
+
     /// What a case of many parts has gone through, to be counted.
     fn notes(_input: &Self::Input, _model: &Out) -> Vec<&'static str> {
         vec![]
@@ -143,9 +153,13 @@ struct Judged {
 }
 
 fn judged<O: Op>(input: &O::Input) -> Judged {
+    judged_by::<O>(input, O::original)
+}
+
+fn judged_by<O: Op>(input: &O::Input, original: impl FnOnce(&O::Input) -> Heard) -> Judged {
     let model = O::run::<Bent<Model>>(input);
     let ours = crate::ours_run::<O>(input);
-    let heard = O::original(input);
+    let heard = original(input);
     let verdict = match &heard {
         _ if ours.as_ref().is_some_and(|ours| *ours != model) => Verdict::OursDiffers,
         Heard::NotAsked => Verdict::NotAsked,
@@ -199,9 +213,9 @@ struct Tally {
     notes: BTreeMap<&'static str, u64>,
 }
 
-/// The refusals that document 01 gives each operation, of the call, and of a sync at a change; those on a log of
-/// edition two are rows of their own.
-const REFUSALS: [(&str, &[u8], &[u8]); 46] = [
+/// The refusals that documents 01 and 02 give each operation, of the call, and of a sync at a change. Those on a log of
+/// edition two are rows of their own, and so are the calls that want zeros after end: the others are tolerant.
+const REFUSALS: [(&str, &[u8], &[u8]); 54] = [
     ("diff read", &[4], &[]),
     ("diff set", &[3], &[]),
     ("diff ask", &[3], &[]),
@@ -248,6 +262,14 @@ const REFUSALS: [(&str, &[u8], &[u8]); 46] = [
     ("sync step two", &[1, 2, 4, 9, 10, 11, 13, 14], &[]),
     ("replay two", &[1, 2, 4, 5, 6, 7, 8, 9, 26], &[]),
     ("replay step two", &[1, 4, 6, 8, 9], &[]),
+    ("reader next zeros", &[4, 6, 8, 27], &[]),
+    ("reader walk zeros", &[4, 5, 6, 7, 8, 27], &[]),
+    ("replay zeros", &[1, 2, 4, 5, 6, 7, 8, 9, 27], &[]),
+    ("replay step zeros", &[1, 4, 6, 8, 9, 27], &[]),
+    ("reader next two zeros", &[4, 6, 8, 27], &[]),
+    ("reader walk two zeros", &[4, 5, 6, 7, 8, 27], &[]),
+    ("replay two zeros", &[1, 2, 4, 5, 6, 7, 8, 9, 26, 27], &[]),
+    ("replay step two zeros", &[1, 4, 6, 8, 9, 27], &[]),
 ];
 
 /// When a run ends.
@@ -311,13 +333,27 @@ impl Run {
         }
     }
 
-    /// Asks one case of all.
+    /// Asks a case of all, and one to a tolerant call of the default call too.
     pub fn case<O: Op>(&mut self, input: O::Input) {
+        self.sample::<O>(input, true);
+    }
+
+    /// The same; by the default call too only if so.
+    pub fn sample<O: Op>(&mut self, input: O::Input, both: bool) {
+        let by_default = if both { O::by_default(&input) } else { None };
+        let heard = self.one::<O>(input, O::original);
+        if let (Some(input), Some(heard)) = (by_default, heard) {
+            self.one::<O>(input, |input| O::heard_by_default(input, heard));
+        }
+    }
+
+    /// Asks one case, and what is heard of the original so; none where the run has given up.
+    fn one<O: Op>(&mut self, input: O::Input, original: impl FnOnce(&O::Input) -> Heard) -> Option<Heard> {
         if self.given_up() {
-            return;
+            return None;
         }
         let name = O::name(&input);
-        let judged = watched::<O, _>(&input, judged::<O>);
+        let judged = watched::<O, _>(&input, |input| judged_by::<O>(input, original));
         self.cases += 1;
         if self.trial {
             if matches!(judged.verdict, Verdict::OriginalDiffers | Verdict::OursDiffers) {
@@ -325,7 +361,7 @@ impl Run {
                 let which = if judged.verdict == Verdict::OursDiffers { "ours" } else { "the original" };
                 self.noticed = Some(format!("{name}, {which}, after {} cases", self.cases));
             }
-            return;
+            return Some(judged.heard);
         }
         let tally = self.tallies.entry(name).or_default();
         tally.cases += 1;
@@ -362,6 +398,7 @@ impl Run {
             self.told = Instant::now();
             eprintln!("{:>5} s  {:>10} cases  {name}", self.started.elapsed().as_secs(), self.cases);
         }
+        Some(judged.heard)
     }
 
     /// The refusals of the operations in this run that no case met, and the departures.
@@ -370,7 +407,12 @@ impl Run {
         let departures = self.parts.iter().flat_map(|part| departures::of_part(part));
         out.extend(departures.filter(|says| !self.examples.contains_key(says)).map(|says| format!("'{says}'")));
         for (name, plain, at_a_change) in REFUSALS {
-            let Some(t) = self.tallies.get(name) else { continue };
+            let Some(t) = self.tallies.get(name) else {
+                // A default call is asked wherever its tolerant one is.
+                let tolerant = name.strip_suffix(" zeros");
+                out.extend(tolerant.filter(|name| self.tallies.contains_key(name)).map(|_| name.to_string()));
+                continue;
+            };
             let wanted = plain.iter().map(|n| (false, *n)).chain(at_a_change.iter().map(|n| (true, *n)));
             out.extend(wanted.filter(|w| !t.refused.contains_key(w)).map(|(_, n)| format!("{name} {n}")));
         }
@@ -378,11 +420,11 @@ impl Run {
     }
 
     pub fn table(&self) {
-        println!("\n{:<18}{:>10}{:>10}  refused (number: cases)", "operation", "cases", "accepted");
+        println!("\n{:<22}{:>10}{:>10}  refused (number: cases)", "operation", "cases", "accepted");
         for (name, t) in &self.tallies {
             let told = |((at, n), c): (&(bool, u8), &u64)| format!("{}{n}: {c}", if *at { "at a change " } else { "" });
             let refused: Vec<String> = t.refused.iter().map(told).collect();
-            println!("{name:<18}{:>10}{:>10}  {}", t.cases, t.accepted, refused.join(", "));
+            println!("{name:<22}{:>10}{:>10}  {}", t.cases, t.accepted, refused.join(", "));
         }
         match &self.untried()[..] {
             [] => println!("each refusal that 01 gives these operations was met, and each known departure"),
@@ -392,9 +434,9 @@ impl Run {
             let notes: Vec<String> = t.notes.iter().map(|(n, c)| format!("{n}: {c}")).collect();
             println!("\n{name}, act by act: {}", notes.join(", "));
         }
-        println!("\nthe original{:>5}{}", "", ROWS.map(|h| format!("{h:>11}")).join(""));
+        println!("\nthe original{:>9}{}", "", ROWS.map(|h| format!("{h:>11}")).join(""));
         for (name, t) in &self.tallies {
-            println!("{name:<17}{}", t.heard.map(|c| format!("{c:>11}")).join(""));
+            println!("{name:<21}{}", t.heard.map(|c| format!("{c:>11}")).join(""));
         }
         println!("\nknown departures of the original from 01");
         let mut seen: BTreeMap<&str, u64> = BTreeMap::new();

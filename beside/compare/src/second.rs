@@ -36,7 +36,7 @@ pub fn seed_of(log: &[u8]) -> Seed {
 }
 
 /// The length of the original's record at the start of some bytes; none where it is cut or no record.
-fn length(left: &[u8]) -> Option<usize> {
+pub fn length(left: &[u8]) -> Option<usize> {
     let len = match left.first()? {
         1 => 5,
         2 => 1,
@@ -53,7 +53,7 @@ fn length(left: &[u8]) -> Option<usize> {
 /// What the original wrote, records or a whole log, told in the edition that names this store; edition one as it is.
 pub fn retold(written: &[u8], seed: &Option<Seed>) -> Vec<u8> {
     let Some(seed) = seed else { return written.to_vec() };
-    let (mut out, mut left) = (vec![], written);
+    let (mut out, mut left) = (Vec::with_capacity(2 * written.len()), written);
     while let Some(len) = length(left) {
         out.push(SECOND);
         out.extend(&left[..len]);
@@ -70,8 +70,8 @@ pub fn retold(written: &[u8], seed: &Option<Seed>) -> Vec<u8> {
     out
 }
 
-/// A log of edition two told back, up to its end or to what is no entry; none where an entry is cut, since the
-/// log's end then stands elsewhere.
+/// A log of edition two told back: up to what is no entry, or up to its end, and what follows that; none where an entry
+/// is cut, since the log's end then stands elsewhere.
 pub fn told_back(log: &[u8]) -> Option<Vec<u8>> {
     let mut out = log[1..SEED_AT].to_vec();
     let mut left = &log[FIRST..];
@@ -92,6 +92,7 @@ pub fn told_back(log: &[u8]) -> Option<Vec<u8>> {
         out.extend(&rest[..len]);
         left = &rest[len..];
         if tag == 2 {
+            out.extend(left);
             break;
         }
     }

@@ -8,7 +8,7 @@ use crate::{
     rng::Rng,
     run::{agreed, Op, Out, Said},
 };
-use model::{diff::Diff, edition::Edition, places::length_of, PAGE};
+use model::{after_end::AfterEnd, diff::Diff, edition::Edition, places::length_of, PAGE};
 
 /// The seed of the list that is kept. Another one gives another list of the same kind.
 pub const SEED: u64 = 8;
@@ -279,7 +279,7 @@ fn logs(rng: &mut Rng) {
             line("reader set", 40, &[&[PAGE as u64 - 1]], &[&one(number, &out)]);
         }
         let mut at = Edition::One.first();
-        while let Some((number, out)) = heard::<ReadOp>(Next(log.clone(), Edition::One, at)) {
+        while let Some((number, out)) = heard::<ReadOp>(Next(log.clone(), Edition::One, at, AfterEnd::Tolerant)) {
             let said = values(&out);
             let (answer, next) = match (number, &said[..]) {
                 (0, [_]) => ([0, 0, 0, at, 0, 0], None),
@@ -298,7 +298,7 @@ fn logs(rng: &mut Rng) {
         }
         // At places where no entry stands.
         for at in [0, rng.below(used.max(1) as u64), PAGE as u64 - 1, PAGE as u64] {
-            if let Some((number @ 1.., _)) = heard::<ReadOp>(Next(log.clone(), Edition::One, at)) {
+            if let Some((number @ 1.., _)) = heard::<ReadOp>(Next(log.clone(), Edition::One, at, AfterEnd::Tolerant)) {
                 line("reader next", 41, &[&[PAGE as u64, at]], &[&[number, 0, 0, at]]);
             }
         }

@@ -1,9 +1,10 @@
-//! Document 01, and of 02 what has landed (W-207), written out as a plain program: from their text and the settled
+//! Document 01, and of 02 what has landed (W-207, W-208), written out as a plain program: from their text and the settled
 //! readings alone, with no eye to speed. Where the original panics or never ends, this is what ours is held to.
 //!
 //! A refusal leaves all lent memory, but for growth refused with 10 or 11 and a sync refused at a
 //! change; both say so.
 
+pub mod after_end;
 pub mod audit;
 pub mod diff;
 pub mod edition;

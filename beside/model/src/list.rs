@@ -1,8 +1,10 @@
 //! Reading off a log: "The program `list` reads a log of at most 65,536 bytes on standard input
 //! (longer: `0 refused 2`; none: `empty`). Each line is byte offset of the record, kind, fields."
-//! A log of edition two has the same lines; the offset is that of its mark's first byte.
+//! A log of edition two has the same lines; the offset is that of its mark's first byte. "`list` moves to the tolerant
+//! reader" (W-208): what follows end is not looked at.
 
 use crate::{
+    after_end::AfterEnd,
     edition::Edition,
     reader::{self, Entry},
     Refused,
@@ -26,7 +28,7 @@ pub fn list(log: &[u8]) -> String {
     let edition = Edition::of(log);
     let mut at = edition.first();
     loop {
-        match reader::next(log, edition, at) {
+        match reader::next(log, edition, at, AfterEnd::Tolerant) {
             Ok((Entry::Clear { bucket }, next)) => {
                 writeln!(lines, "{at} clear {bucket}").unwrap();
                 at = next;

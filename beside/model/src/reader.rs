@@ -1,8 +1,9 @@
 //! Log: "start = 1, sync number u32; clear = 3, bucket u64; update = 4, id 32, diff 16, the marked
 //! nodes, elided 8, bucket u64 (65 + 32c bytes); end = 2, then zeros to a multiple of 4,096.
-//! Little-endian. The reader does not look past end."
+//! Little-endian. The reader does not look past end"; since W-208 that is the tolerant reader.
 
 use crate::{
+    after_end::AfterEnd,
     diff::{self, Diff, Node},
     edition::{Edition, Start, SECOND},
     unless, Answer, Refused, PAGE,
@@ -38,8 +39,8 @@ pub fn set(log: &[u8]) -> Answer<Start> {
 /// The entry at a position, and the position after it. "Each entry is taken apart or the reading stops
 /// there, position unchanged", and "after end it answers end again": the position after end is end's.
 /// In an update: 6 up to the diff, 4, 6. In edition two: "for a mark whose first byte isn't 0xB2 the number is 8, at
-/// the log's last byte too; a 0xB2 as the last byte there is 6."
-pub fn next(log: &[u8], edition: Edition, at: u64) -> Answer<(Entry, u64)> {
+/// the log's last byte too; a 0xB2 as the last byte there is 6." And 27 "in place of end", whenever it is asked.
+pub fn next(log: &[u8], edition: Edition, at: u64, after: AfterEnd) -> Answer<(Entry, u64)> {
     let mut left = usize::try_from(at).ok().and_then(|at| log.get(at..)).ok_or(Refused(6))?;
     if edition == Edition::Two {
         let [first] = take(&mut left)?;
@@ -47,12 +48,15 @@ pub fn next(log: &[u8], edition: Edition, at: u64) -> Answer<(Entry, u64)> {
     }
     let [tag] = take(&mut left)?;
     let entry = match tag {
-        END => return Ok((Entry::End, at)),
+        END => {
+            after.look(left)?;
+            return Ok((Entry::End, at));
+        }
         CLEAR => Entry::Clear { bucket: u64::from_le_bytes(take(&mut left)?) },
         UPDATE => {
             let id = take(&mut left)?;
             let diff = diff::read(take(&mut left)?)?;
-            let mut nodes = Vec::new();
+            let mut nodes = Vec::with_capacity(diff.count() as usize);
             for _ in 0..diff.count() {
                 nodes.push(take(&mut left)?);
             }

@@ -2,6 +2,7 @@
 //! bytes. Clear: tombstone."
 
 use crate::{
+    after_end::AfterEnd,
     diff::NODE,
     edition::{Edition, Seed},
     places::{image_fits, page_at, ELIDED_AT, ID_AT},
@@ -17,9 +18,17 @@ pub enum Replayed {
     Applied,
 }
 
-/// In order: 1, nothing, 5, 7, 26, stale, then the first bad entry, last the hash count 2. "Replay is lent the
-/// table's seed and refuses another store's log"; a log of edition one names none.
-pub fn replay(image: &mut [u8], n: u64, log: &[u8], sync: u32, seed: &Seed, hashes: &[u64]) -> Answer<Replayed> {
+/// In order: 1, nothing, 5, 7, 26, stale, then the first bad entry, 27 "after the entries and before the hash count",
+/// last that, 2. "Replay is lent the table's seed and refuses another store's log"; a log of edition one names none.
+pub fn replay(
+    image: &mut [u8],
+    n: u64,
+    log: &[u8],
+    sync: u32,
+    seed: &Seed,
+    hashes: &[u64],
+    after: AfterEnd,
+) -> Answer<Replayed> {
     image_fits(image, n)?;
     if log.is_empty() {
         return Ok(Replayed::Nothing);
@@ -31,7 +40,8 @@ pub fn replay(image: &mut [u8], n: u64, log: &[u8], sync: u32, seed: &Seed, hash
     if start.sync != sync {
         return Ok(Replayed::Stale);
     }
-    let entries = entries(log, start.edition(), n)?;
+    let (entries, end) = entries(log, start.edition(), n)?;
+    after.look(&log[(end + start.edition().width()) as usize..])?;
     let updates = entries.iter().filter(|e| matches!(e, Entry::Update { .. })).count();
     unless(hashes.len() == updates, 2)?;
 
@@ -45,22 +55,22 @@ pub fn replay(image: &mut [u8], n: u64, log: &[u8], sync: u32, seed: &Seed, hash
     Ok(Replayed::Applied)
 }
 
-/// The entries of a log that begins with a start, each with a bucket below n.
-fn entries(log: &[u8], edition: Edition, n: u64) -> Answer<Vec<Entry>> {
+/// The entries of a log that begins with a start, each with a bucket below n, and where its end stands.
+fn entries(log: &[u8], edition: Edition, n: u64) -> Answer<(Vec<Entry>, u64)> {
     let mut entries = Vec::new();
     let mut at = edition.first();
     loop {
-        let (entry, next) = entry(log, edition, n, at)?;
+        let (entry, next) = entry(log, edition, n, at, AfterEnd::Tolerant)?;
         if entry == Entry::End {
-            return Ok(entries);
+            return Ok((entries, at));
         }
         entries.push(entry);
         at = next;
     }
 }
 
-fn entry(log: &[u8], edition: Edition, n: u64, at: u64) -> Answer<(Entry, u64)> {
-    let (entry, next) = reader::next(log, edition, at)?;
+fn entry(log: &[u8], edition: Edition, n: u64, at: u64, after: AfterEnd) -> Answer<(Entry, u64)> {
+    let (entry, next) = reader::next(log, edition, at, after)?;
     if let Entry::Clear { bucket } | Entry::Update { bucket, .. } = entry {
         unless(bucket < n, 9)?;
     }
@@ -91,10 +101,18 @@ pub enum Stepped {
     End,
 }
 
-/// One entry of a log, applied: "each entry is applied by one step". In order: 1, the entry's.
-pub fn step(image: &mut [u8], n: u64, log: &[u8], edition: Edition, at: u64, hash: u64) -> Answer<Stepped> {
+/// One entry of a log, applied: "each entry is applied by one step". In order: 1, the entry's; at end the reader's 27.
+pub fn step(
+    image: &mut [u8],
+    n: u64,
+    log: &[u8],
+    edition: Edition,
+    at: u64,
+    hash: u64,
+    after: AfterEnd,
+) -> Answer<Stepped> {
     image_fits(image, n)?;
-    let (entry, next) = entry(log, edition, n, at)?;
+    let (entry, next) = entry(log, edition, n, at, after)?;
     apply(image, n, &entry, hash);
     Ok(match entry {
         Entry::Clear { .. } => Stepped::Cleared { next },

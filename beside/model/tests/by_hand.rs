@@ -1,6 +1,9 @@
 //! 01's "Checked by hand".
 
-use model::{diff::*, edition::Start, growth::*, path::*, reader, replay::*, tags::*, writer, writer::Writer, Refused};
+use model::{
+    after_end::AfterEnd, diff::*, edition::Start, growth::*, path::*, reader, replay::*, tags::*, writer,
+    writer::Writer, Refused,
+};
 
 fn tags(first: &[u8]) -> Vec<u8> {
     let mut tags = vec![0; 4096];
@@ -79,9 +82,9 @@ fn one_clear_replayed() {
     let w = writer::clear(&mut log, w, 0).unwrap();
     writer::finish(&mut log, w).unwrap();
     let mut image = vec![0; 8192];
-    assert_eq!(replay(&mut image, 1, &log, 8, &[9; 16], &[]), Ok(Replayed::Stale));
+    assert_eq!(replay(&mut image, 1, &log, 8, &[9; 16], &[], AfterEnd::Zeros), Ok(Replayed::Stale));
     assert_eq!(image[0], 0);
-    assert_eq!(replay(&mut image, 1, &log, 7, &[9; 16], &[]), Ok(Replayed::Applied));
+    assert_eq!(replay(&mut image, 1, &log, 7, &[9; 16], &[], AfterEnd::Zeros), Ok(Replayed::Applied));
     assert_eq!(image[0], 0x7F);
 }
 

@@ -1,6 +1,7 @@
 //! Edition two of the log by hand: its bytes, its room, its refusals. Document 02, W-207.
 
 use model::{
+    after_end::AfterEnd,
     diff::{pack, Diff},
     edition::{Edition, Seed, Start},
     list::list,
@@ -57,14 +58,14 @@ fn bytes() {
 fn read_back() {
     let log = log();
     assert_eq!(reader::set(&log), Ok(Start::two(7, SEED)));
-    assert_eq!(reader::next(&log, Edition::Two, 22), Ok((Entry::Clear { bucket: 3 }, 32)));
-    let (entry, after) = reader::next(&log, Edition::Two, 32).unwrap();
+    assert_eq!(reader::next(&log, Edition::Two, 22, AfterEnd::Zeros), Ok((Entry::Clear { bucket: 3 }, 32)));
+    let (entry, after) = reader::next(&log, Edition::Two, 32, AfterEnd::Zeros).unwrap();
     let update = Entry::Update { id: [0x11; 32], diff: Diff(2), nodes: vec![[0x55; 32]], elided: [0x22; 8], bucket: 0 };
     assert_eq!((entry, after), (update, 130));
-    assert_eq!(reader::next(&log, Edition::Two, 130), Ok((Entry::End, 130)));
+    assert_eq!(reader::next(&log, Edition::Two, 130, AfterEnd::Zeros), Ok((Entry::End, 130)));
     assert_eq!(list(&log), "0 start 7\n22 clear 3\n32 update 0 1\n130 end\n");
     // A reader of edition one that is put behind a mark's first byte.
-    assert_eq!(reader::next(&log, Edition::One, 23), Ok((Entry::Clear { bucket: 3 }, 32)));
+    assert_eq!(reader::next(&log, Edition::One, 23, AfterEnd::Zeros), Ok((Entry::Clear { bucket: 3 }, 32)));
 }
 
 #[test]
@@ -82,7 +83,7 @@ fn starts() {
 
 #[test]
 fn marks() {
-    let next = |log: &[u8], at| reader::next(log, Edition::Two, at).map(|(entry, _)| entry);
+    let next = |log: &[u8], at| reader::next(log, Edition::Two, at, AfterEnd::Zeros).map(|(entry, _)| entry);
     // A bare tag, a start, an unknown tag, 0xB2 twice, zeros.
     for bad in [&[3, 0][..], &[2], &[4], &[0xB2, 1], &[0xB2, 5], &[0xB2, 0], &[0xB2, 0xB2, 2], &[0]] {
         assert_eq!(next(&page(bad), 0), Err(Refused(8)));
@@ -97,7 +98,7 @@ fn marks() {
     assert_eq!(next(&[0xB2, 2], 0), Ok(Entry::End));
     assert_eq!(next(&[0xB2, 3, 0, 0, 0, 0, 0, 0, 0], 0), Err(Refused(6)));
     // A mark of edition two in a log of edition one.
-    assert_eq!(reader::next(&[0xB2, 2], Edition::One, 0), Err(Refused(8)));
+    assert_eq!(reader::next(&[0xB2, 2], Edition::One, 0, AfterEnd::Zeros), Err(Refused(8)));
 }
 
 #[test]
@@ -132,7 +133,7 @@ fn another_store() {
     let log = log();
     let mut image = vec![0; 4096 * 5];
     let mut replayed = |log: &[u8], sync, seed: &Seed| {
-        let said = replay(&mut image, 4, log, sync, seed, &[0]);
+        let said = replay(&mut image, 4, log, sync, seed, &[0], AfterEnd::Zeros);
         (said, (image[0], image[3]))
     };
     // 26 stands before stale, whatever the number; stale where the store is the one.
@@ -164,7 +165,7 @@ fn edition_one_names_no_store() {
     let w = writer::begin(&mut log, Start::one(7)).unwrap();
     writer::finish(&mut log, w).unwrap();
     for seed in [SEED, OTHER] {
-        assert_eq!(replay(&mut [0; 8192], 1, &log, 7, &seed, &[]), Ok(Replayed::Applied));
+        assert_eq!(replay(&mut [0; 8192], 1, &log, 7, &seed, &[], AfterEnd::Zeros), Ok(Replayed::Applied));
     }
 }
 
@@ -172,7 +173,7 @@ fn edition_one_names_no_store() {
 fn steps() {
     let log = log();
     let mut image = vec![0; 4096 * 5];
-    let mut at = |at| step(&mut image, 4, &log, Edition::Two, at, u64::MAX);
+    let mut at = |at| step(&mut image, 4, &log, Edition::Two, at, u64::MAX, AfterEnd::Zeros);
     assert_eq!(at(22), Ok(Stepped::Cleared { next: 32 }));
     assert_eq!(at(32), Ok(Stepped::Updated { next: 130 }));
     assert_eq!(at(130), Ok(Stepped::End));

@@ -5,7 +5,7 @@
 use original::{
     audit, diff, growth,
     hash::id_of,
-    log::{Builder, Reader},
+    log::{Builder, Entry, Reader},
     path::{self, Map},
     places, replay,
     running::Folder,
@@ -180,8 +180,8 @@ fn hits_are_counted_by_visit() {
 #[test]
 fn the_reader_moves_on_after_end() {
     let mut reader = Reader::new(&log_of(&[2, 3, 5, 0, 0, 0, 0, 0, 0, 0])).unwrap();
-    assert_eq!(reader.read_entry(), Ok(original::log::Entry::End));
-    assert_eq!(reader.read_entry(), Ok(original::log::Entry::Clear { bucket: 5 }));
+    assert_eq!(reader.read_entry(), Ok(Entry::End));
+    assert_eq!(reader.read_entry(), Ok(Entry::Clear { bucket: 5 }));
 }
 
 #[test]
@@ -309,6 +309,17 @@ fn a_refused_replay_has_written_pages() {
     let replayed = replay::recover(&image_of(1, &[]), 1, &SEED, &log_of(&update), 7);
     assert_eq!(error(replayed.said), "unknown WAL entry tag: 255");
     assert_eq!((replayed.image[0], replayed.image[8191]), (0, 9));
+}
+
+#[test]
+fn what_follows_end_is_not_looked_at() {
+    // A clear of bucket 0, end, and an old entry: a clear of bucket 1.
+    let log = log_of(&[3, 0, 0, 0, 0, 0, 0, 0, 0, 2, 3, 1, 0, 0, 0, 0, 0, 0, 0, 2]);
+    let mut reader = Reader::new(&log).unwrap();
+    assert_eq!(reader.read_entry(), Ok(Entry::Clear { bucket: 0 }));
+    assert_eq!(reader.read_entry(), Ok(Entry::End));
+    let replayed = replay::recover(&image_of(2, &[]), 2, &SEED, &log, 7);
+    assert_eq!((replayed.said, replayed.image), (Ok(()), image_of(2, &[0x7F])));
 }
 
 // Growth and audit.

@@ -1,5 +1,6 @@
 //! The operations, each with its inputs: short ones one after another, and others by chance.
 
+pub mod after;
 pub mod audit;
 pub mod diff;
 pub mod growth;

@@ -1,6 +1,7 @@
 //! wal/read.rs: the reader, and the program that reads off a log.
 
 use crate::{
+    after, departures as known,
     engine::{head_of, Engine, Head},
     faults::heard,
     heard::{number, Did, End, Heard},
@@ -10,8 +11,9 @@ use crate::{
     second::{is_second, seed_of, FIRST},
 };
 use model::{
+    after_end::AfterEnd::{self, Tolerant, Zeros},
     diff::Diff,
-    edition::{Edition, Start, SECOND},
+    edition::{Edition, Seed, Start, SECOND},
     reader::Entry,
     PAGE,
 };
@@ -23,9 +25,9 @@ pub struct ReadOp;
 pub enum Input {
     Set(Log),
     /// The entry at a position, read as one of an edition.
-    Next(Log, Edition, u64),
+    Next(Log, Edition, u64, AfterEnd),
     /// Set, then entry after entry up to end or a refusal, and once more.
-    Walk(Log),
+    Walk(Log, AfterEnd),
     List(Log),
 }
 
@@ -35,8 +37,37 @@ impl Input {
     /// The edition that it is read in, by which its row is named.
     fn edition(&self) -> Edition {
         match self {
-            Next(_, edition, _) => *edition,
-            Set(log) | Walk(log) | List(log) => log.edition(),
+            Next(_, edition, ..) => *edition,
+            Set(log) | Walk(log, _) | List(log) => log.edition(),
+        }
+    }
+
+    /// What is wanted after end; of the calls that do not come to it, and of `list`, nothing.
+    fn after(&self) -> AfterEnd {
+        match self {
+            Next(.., after) | Walk(_, after) => *after,
+            Set(_) | List(_) => Tolerant,
+        }
+    }
+
+    fn asked(&self, after: AfterEnd) -> Input {
+        match self.clone() {
+            Next(log, edition, at, _) => Next(log, edition, at, after),
+            Walk(log, _) => Walk(log, after),
+            other => other,
+        }
+    }
+
+    /// Whether a byte after the end that it comes to is not zero.
+    fn used(&self) -> bool {
+        match self {
+            Next(log, edition, at, _) => after::used(&log.bytes(), *edition, *at),
+            Walk(log, _) => {
+                let log = log.bytes();
+                let edition = Edition::of(&log);
+                after::used(&log, edition, edition.first())
+            }
+            Set(_) | List(_) => false,
         }
     }
 }
@@ -291,15 +322,19 @@ impl Op for ReadOp {
     type Input = Input;
 
     fn name(input: &Input) -> &'static str {
-        match (input, input.edition()) {
-            (Set(..), Edition::One) => "reader set",
-            (Set(..), Edition::Two) => "reader set two",
-            (Next(..), Edition::One) => "reader next",
-            (Next(..), Edition::Two) => "reader next two",
-            (Walk(..), Edition::One) => "reader walk",
-            (Walk(..), Edition::Two) => "reader walk two",
-            (List(..), Edition::One) => "list",
-            (List(..), Edition::Two) => "list two",
+        match (input, input.edition(), input.after()) {
+            (Set(..), Edition::One, _) => "reader set",
+            (Set(..), Edition::Two, _) => "reader set two",
+            (Next(..), Edition::One, Tolerant) => "reader next",
+            (Next(..), Edition::Two, Tolerant) => "reader next two",
+            (Next(..), Edition::One, Zeros) => "reader next zeros",
+            (Next(..), Edition::Two, Zeros) => "reader next two zeros",
+            (Walk(..), Edition::One, Tolerant) => "reader walk",
+            (Walk(..), Edition::Two, Tolerant) => "reader walk two",
+            (Walk(..), Edition::One, Zeros) => "reader walk zeros",
+            (Walk(..), Edition::Two, Zeros) => "reader walk two zeros",
+            (List(..), Edition::One, _) => "list",
+            (List(..), Edition::Two, _) => "list two",
         }
     }
 
@@ -309,16 +344,16 @@ impl Op for ReadOp {
                 let log = log.bytes();
                 Out::of(E::reader_set(&log), start_told).reading("log", log)
             }
-            Next(log, edition, at) => {
+            Next(log, edition, at, after) => {
                 let log = log.bytes();
-                let head = head_bytes(E::reader_head(&log, *edition, *at));
-                let out = Out::of(E::reader_next(&log, *edition, *at), |(entry, after)| {
-                    let (name, values) = entry_told(&entry, after);
-                    Out::value(name, &values).with("entry", entry_bytes(&entry, after))
+                let head = head_bytes(E::reader_head(&log, *edition, *at, *after));
+                let out = Out::of(E::reader_next(&log, *edition, *at, *after), |(entry, next)| {
+                    let (name, values) = entry_told(&entry, next);
+                    Out::value(name, &values).with("entry", entry_bytes(&entry, next))
                 });
                 out.with("head", head).reading("log", log)
             }
-            Walk(log) => {
+            Walk(log, after) => {
                 let log = log.bytes();
                 let start = match E::reader_set(&log) {
                     Ok(start) => start,
@@ -328,20 +363,23 @@ impl Op for ReadOp {
                 let edition = start.edition();
                 let mut at = edition.first();
                 loop {
-                    match E::reader_next(&log, edition, at) {
-                        Ok((entry, after)) => {
-                            walked.extend(entry_bytes(&entry, after));
-                            walked.extend(head_bytes(E::reader_head(&log, edition, at)));
+                    match E::reader_next(&log, edition, at, *after) {
+                        Ok((entry, next)) => {
+                            walked.extend(entry_bytes(&entry, next));
+                            walked.extend(head_bytes(E::reader_head(&log, edition, at, *after)));
                             if entry == Entry::End {
-                                let again = E::reader_next(&log, edition, after) == Ok((Entry::End, after));
+                                let again = E::reader_next(&log, edition, next, *after) == Ok((Entry::End, next));
                                 let out = Out::value("end", &[at, again as u64]);
                                 return out.with("walk", walked).reading("log", log);
                             }
-                            at = after;
+                            at = next;
                         }
                         Err(why) => {
-                            if E::reader_head(&log, edition, at) != Err(why) {
+                            if E::reader_head(&log, edition, at, *after) != Err(why) {
                                 walked.extend(b"another head");
+                            }
+                            if E::reader_next(&log, edition, at, *after) != Err(why) {
+                                walked.extend(b"another answer");
                             }
                             return Out::refused(why.0).with("walk", walked).reading("log", log);
                         }
@@ -361,6 +399,9 @@ impl Op for ReadOp {
     }
 
     fn original(input: &Input) -> Heard {
+        if input.after() == Zeros {
+            return Self::heard_by_default(input, Self::original(&input.asked(Tolerant)));
+        }
         match input {
             Set(log) => {
                 let log = log.bytes();
@@ -369,7 +410,7 @@ impl Op for ReadOp {
                 }
                 Did::of(o::Reader::new(&log), |r| Did::value("sync", &[r.sync_seqn() as u64])).plain()
             }
-            Next(log, edition, at) => {
+            Next(log, edition, at, _) => {
                 let log = log.bytes();
                 let Some(there) = behind(&log, *edition, *at) else { return Heard::NotAsked };
                 let mut reader = o::Reader::at(&log, there as usize);
@@ -384,7 +425,7 @@ impl Op for ReadOp {
                     Err(said) => Heard::Held(Err(said)),
                 }
             }
-            Walk(log) => {
+            Walk(log, _) => {
                 let log = log.bytes();
                 if is_second(&log) {
                     return beyond_original(&log, second_walk);
@@ -423,14 +464,34 @@ impl Op for ReadOp {
         }
     }
 
+    fn by_default(input: &Input) -> Option<Input> {
+        match input {
+            Next(.., Tolerant) | Walk(_, Tolerant) => Some(input.asked(Zeros)),
+            _ => None,
+        }
+    }
+
+    fn heard_by_default(input: &Input, tolerant: Heard) -> Heard {
+        let refused = |tolerant: &Out| match input {
+            Next(..) => Out::refused(27).with("head", [27]),
+            _ => {
+                let end = entry_bytes(&Entry::End, 0).len() + head_bytes(Ok([0; 4])).len();
+                let walked = &tolerant.bytes[0].1;
+                Out::refused(27).with("walk", &walked[..walked.len() - end])
+            }
+        };
+        let inputs = [input, &input.asked(Tolerant)];
+        after::heard::<ReadOp>(inputs, tolerant, || input.used(), Some(known::READER_AFTER_END), refused)
+    }
+
     fn smaller(input: &Input) -> Vec<Input> {
         match input {
             Set(l) => l.smaller().into_iter().map(Set).collect(),
-            Walk(l) => l.smaller().into_iter().map(Walk).collect(),
+            Walk(l, after) => l.smaller().into_iter().map(|l| Walk(l, *after)).collect(),
             List(l) => l.smaller().into_iter().map(List).collect(),
-            Next(l, edition, at) => {
-                let logs = l.smaller().into_iter().map(|l| Next(l, *edition, *at));
-                logs.chain(smaller_number(*at).into_iter().map(|at| Next(l.clone(), *edition, at))).collect()
+            Next(l, edition, at, after) => {
+                let logs = l.smaller().into_iter().map(|l| Next(l, *edition, *at, *after));
+                logs.chain(smaller_number(*at).into_iter().map(|at| Next(l.clone(), *edition, at, *after))).collect()
             }
         }
     }
@@ -498,24 +559,34 @@ pub fn good_logs() -> Vec<Log> {
 
 /// A log of two pages lent with its first alone: a record stands `left` bytes before the cut.
 pub fn cut_at(left: usize, record: Record) -> Option<Log> {
-    let before = PAGE.checked_sub(5 + left)?;
+    Some(Log { cut: Some(PAGE), ..standing_at(left, record, None)? })
+}
+
+/// A log, of this store where it is one of edition two, in which a record stands `left` bytes before the first page's
+/// end.
+pub fn standing_at(left: usize, record: Record, seed: Option<Seed>) -> Option<Log> {
+    let empty = Log { seed, ..Log::new(7, &[]) };
+    let edition = empty.edition();
+    let before = PAGE.checked_sub(empty.used() + left)?;
     // Clears and empty updates up to the place.
-    let updates = (0..9).find(|u| before >= 65 * u && (before - 65 * u) % 9 == 0)?;
+    let (clear, longer) = (edition.clear_size() as usize, edition.update_size(0) as usize);
+    let updates = (0..10).find(|u| before >= longer * u && (before - longer * u) % clear == 0)?;
     let mut records = vec![update(0, 0); updates];
-    records.extend(vec![Record::Clear(0); (before - 65 * updates) / 9]);
+    records.extend(vec![Record::Clear(0); (before - longer * updates) / clear]);
     records.push(record);
-    Some(Log { cut: Some(PAGE), ..Log::new(7, &records) })
+    Some(Log { records, ..empty })
 }
 
 /// Every single-byte change of a log's records, and of some bytes after them; in a long log each byte
-/// is changed to a few others.
-pub fn changed_bytes(log: &Log) -> impl Iterator<Item = Log> + '_ {
+/// is changed to a few others. And whether the default call is asked too: of changes of the records every fifth time.
+pub fn changed_bytes(log: &Log) -> impl Iterator<Item = (Log, bool)> + '_ {
     let used = log.used();
     let len = log.bytes().len();
     let values: &[u8] = if used < 600 { &EVERY } else { &[0, 1, 2, 3, 4, 0x40, 0x80, 0xB2, 0xFF] };
     let all = (0..used + 2).flat_map(|at| values.iter().map(move |&b| (at, b)));
     let some = (used + 2..len).step_by(97).flat_map(|at| [1, 2, 3, 4, 255].map(|b| (at, b)));
-    all.chain(some).map(|change| Log { changed: vec![change], ..log.clone() })
+    let both = move |(i, (at, byte))| (Log { changed: vec![(at, byte)], ..log.clone() }, at >= used || i % 5 == 0);
+    all.chain(some).enumerate().map(both)
 }
 
 const EVERY: [u8; 256] = {
@@ -533,7 +604,7 @@ pub fn walked(run: &mut Run, log: Log) {
     let mut ended = log.clone();
     ended.records.push(Record::End);
     for each in [ended, log.clone()] {
-        run.case::<ReadOp>(Walk(each.clone()));
+        run.case::<ReadOp>(Walk(each.clone(), Tolerant));
         if log.records.len() < 3 {
             run.case::<ReadOp>(List(each.clone()));
             run.case::<ReadOp>(Set(each));
@@ -549,20 +620,20 @@ pub fn exhaustive(run: &mut Run) {
         for len in [0, 1, 4, 5, 4095, 4096, 4097, 8191, 8192, 8193, 12288, 65_535, 65_536, 65_537, 69_632] {
             let log = Log { cut: Some(len), ..log.clone() };
             run.case::<ReadOp>(Set(log.clone()));
-            run.case::<ReadOp>(Walk(log.clone()));
+            run.case::<ReadOp>(Walk(log.clone(), Tolerant));
             run.case::<ReadOp>(List(log));
         }
-        for changed in changed_bytes(&log) {
+        for (changed, both) in changed_bytes(&log) {
             let (at, _) = changed.changed[0];
             if at < 6 {
                 run.case::<ReadOp>(Set(changed.clone()));
                 run.case::<ReadOp>(List(changed.clone()));
             }
-            run.case::<ReadOp>(Walk(changed));
+            run.sample::<ReadOp>(Walk(changed, Tolerant), both);
         }
         let len = log.bytes().len() as u64;
         for at in (0..len + 3).chain([1 << 32, u64::MAX - 60, u64::MAX]) {
-            run.case::<ReadOp>(Next(log.clone(), Edition::One, at));
+            run.case::<ReadOp>(Next(log.clone(), Edition::One, at, Tolerant));
         }
     }
     // A record cut after each of its bytes.
@@ -570,7 +641,7 @@ pub fn exhaustive(run: &mut Run) {
     {
         for left in 0..=140 {
             if let Some(log) = cut_at(left, record) {
-                run.case::<ReadOp>(Walk(log.clone()));
+                run.case::<ReadOp>(Walk(log.clone(), Tolerant));
                 run.case::<ReadOp>(List(log));
             }
         }
@@ -641,9 +712,9 @@ pub fn random(run: &mut Run, rng: &mut Rng) {
         0 => run.case::<ReadOp>(Set(log)),
         1 => {
             let at = if rng.once_in(10) { rng.number() } else { rng.below(log.used() as u64 + 4) };
-            run.case::<ReadOp>(Next(log, Edition::One, at));
+            run.case::<ReadOp>(Next(log, Edition::One, at, Tolerant));
         }
         2 => run.case::<ReadOp>(List(log)),
-        _ => run.case::<ReadOp>(Walk(log)),
+        _ => run.case::<ReadOp>(Walk(log, Tolerant)),
     }
 }

@@ -1,7 +1,7 @@
 //! mod.rs: `recover`.
 
 use crate::{
-    departures as known,
+    after, departures as known,
     engine::Engine,
     faults::heard,
     heard::{number, outside, Did, End, Heard},
@@ -18,6 +18,7 @@ use crate::{
     second::{is_second, seed_of, told_back},
 };
 use model::{
+    after_end::AfterEnd::{self, Tolerant, Zeros},
     diff::{Diff, NODE},
     edition::{Edition, Seed, SECOND},
     replay::{Replayed, Stepped},
@@ -46,6 +47,7 @@ pub struct Input {
     pub seed: Seed,
     /// One step at a position, its entry read as one of an edition, instead of the whole.
     pub step: Option<(Edition, u64)>,
+    pub after: AfterEnd,
 }
 
 /// What the original says, and what it leaves of table and log.
@@ -224,19 +226,20 @@ impl fmt::Debug for Input {
             write!(f, ", hashes of their own")?;
         }
         match self.step {
-            Some((edition, at)) => write!(f, ", one step in edition {edition:?} at {at}"),
+            Some((edition, at)) => write!(f, ", one step in edition {edition:?} at {at}")?,
             None if self.log.seed.is_some_and(|seed| seed != self.seed) => {
-                write!(f, ", on a table of seed {:?}", Bytes(self.seed.to_vec()))
+                write!(f, ", on a table of seed {:?}", Bytes(self.seed.to_vec()))?
             }
-            None => Ok(()),
+            None => {}
         }
+        write!(f, ", {:?}", self.after)
     }
 }
 
 impl Input {
     pub fn new(table: Table, log: Log) -> Self {
         let seed = log.seed.unwrap_or(*hash_seed());
-        Input { table, sync: log.sync, log, hashes_more: 0, foreign: false, seed, step: None }
+        Input { table, sync: log.sync, log, hashes_more: 0, foreign: false, seed, step: None, after: Tolerant }
     }
 
     fn hashes(&self, log: &[u8]) -> Vec<u64> {
@@ -249,9 +252,17 @@ impl Input {
         hashes
     }
 
+    /// Whether a byte after the end that it comes to is not zero.
+    fn used(&self) -> bool {
+        let log = self.log.bytes();
+        let edition = Edition::of(&log);
+        let (edition, at) = self.step.unwrap_or((edition, edition.first()));
+        after::used(&log, edition, at)
+    }
+
     /// The hash that a step is lent: that of an update's id.
     fn hash_at(&self, log: &[u8], edition: Edition, at: u64) -> u64 {
-        match model::reader::next(log, edition, at) {
+        match model::reader::next(log, edition, at, Tolerant) {
             Ok((model::reader::Entry::Update { id, .. }, _)) if !self.foreign => hash_of(id),
             _ => mixed(at),
         }
@@ -262,11 +273,15 @@ impl Op for ReplayOp {
     type Input = Input;
 
     fn name(input: &Input) -> &'static str {
-        match (input.step, input.log.edition()) {
-            (Some((Edition::One, _)), _) => "replay step",
-            (Some((Edition::Two, _)), _) => "replay step two",
-            (None, Edition::One) => "replay",
-            (None, Edition::Two) => "replay two",
+        match (input.step, input.log.edition(), input.after) {
+            (Some((Edition::One, _)), _, Tolerant) => "replay step",
+            (Some((Edition::Two, _)), _, Tolerant) => "replay step two",
+            (Some((Edition::One, _)), _, Zeros) => "replay step zeros",
+            (Some((Edition::Two, _)), _, Zeros) => "replay step two zeros",
+            (None, Edition::One, Tolerant) => "replay",
+            (None, Edition::Two, Tolerant) => "replay two",
+            (None, Edition::One, Zeros) => "replay zeros",
+            (None, Edition::Two, Zeros) => "replay two zeros",
         }
     }
 
@@ -276,7 +291,7 @@ impl Op for ReplayOp {
         let hashes = input.hashes(&log);
         let out = match input.step {
             None => {
-                let said = E::replay(&mut image, input.table.n, &log, input.sync, &input.seed, &hashes);
+                let said = E::replay(&mut image, input.table.n, &log, input.sync, &input.seed, &hashes, input.after);
                 Out::of(said, |r| match r {
                     Replayed::Nothing => Out::value("nothing", &[]),
                     Replayed::Stale => Out::value("stale", &[]),
@@ -285,7 +300,7 @@ impl Op for ReplayOp {
             }
             Some((edition, at)) => {
                 let hash = input.hash_at(&log, edition, at);
-                let said = E::replay_step(&mut image, input.table.n, &log, edition, at, hash);
+                let said = E::replay_step(&mut image, input.table.n, &log, edition, at, hash, input.after);
                 Out::of(said, |s| match s {
                     Stepped::Cleared { next } => Out::value("cleared", &[next]),
                     Stepped::Updated { next } => Out::value("updated", &[next]),
@@ -297,6 +312,10 @@ impl Op for ReplayOp {
     }
 
     fn original(input: &Input) -> Heard {
+        if input.after == Zeros {
+            let tolerant = Input { after: Tolerant, ..input.clone() };
+            return Self::heard_by_default(input, Self::original(&tolerant));
+        }
         let n = input.table.n;
         if n > u32::MAX as u64 || input.foreign {
             return Heard::NotAsked;
@@ -318,6 +337,18 @@ impl Op for ReplayOp {
             Err(number) => Said::Refused(number),
         };
         judged(before, n, &log, input.sync, said)
+    }
+
+    fn by_default(input: &Input) -> Option<Input> {
+        (input.after == Tolerant).then(|| Input { after: Zeros, ..input.clone() })
+    }
+
+    fn heard_by_default(input: &Input, tolerant: Heard) -> Heard {
+        let inputs = [input, &Input { after: Tolerant, ..input.clone() }];
+        let refused = |_: &Out| Out::refused(27).with("image", input.table.image());
+        // A step is told to it as a log of its own.
+        let how = input.step.is_none().then_some(known::REPLAY_AFTER_END);
+        after::heard::<ReplayOp>(inputs, tolerant, || input.used(), how, refused)
     }
 
     fn smaller(input: &Input) -> Vec<Input> {
@@ -399,8 +430,8 @@ pub fn exhaustive(run: &mut Run) {
             }
         }
         // Every single-byte change, under the log's sync number.
-        for changed in changed_bytes(&log) {
-            run.case::<ReplayOp>(Input::new(table(3), changed));
+        for (changed, both) in changed_bytes(&log) {
+            run.sample::<ReplayOp>(Input::new(table(3), changed), both);
         }
         for len in [0, 1, 4, 5, 4095, 4096, 4097, 8191, 8192, 8193, 12288] {
             for sync in [7, 8] {

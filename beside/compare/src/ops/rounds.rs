@@ -14,8 +14,9 @@ use crate::{
     second::retold,
 };
 use model::{
+    after_end::AfterEnd,
     diff::{Diff, NODE},
-    edition::Start,
+    edition::{Seed, Start},
     growth::Grown,
     path::Found,
     places::{length_of, page_of, tag_pages_of, tags_of, ELIDED_AT, ID_AT},
@@ -199,7 +200,7 @@ fn sync<E: Engine>(
     let mut writes: Vec<(u64, Vec<u8>)> = Vec::new();
     let mut at = start.edition().first();
     for page in records.iter().zip(pages.chunks(PAGE)).map(|(r, p)| (!r.diff.cleared()).then_some(p)) {
-        if let Ok((entry, next)) = E::reader_next(&log, start.edition(), at) {
+        if let Ok((entry, next)) = E::reader_next(&log, start.edition(), at, AfterEnd::Zeros) {
             if let (model::reader::Entry::Update { bucket, .. }, Some(page)) = (entry, page) {
                 writes.push((tag_pages_of(world.n) + bucket, page.to_vec()));
             }
@@ -266,13 +267,12 @@ fn sync<E: Engine>(
     let wanted: Answer<Replayed> = Ok(if *cut == Cut::BeforeMeta { Replayed::Stale } else { Replayed::Applied });
     if second {
         // Another store does not take it.
-        let said =
-            E::replay(&mut world.image, world.n, &log, world.sync, &near(*hash_seed(), 15, 1), &log_hashes(&log));
+        let said = replay::<E>(world, &log, &near(*hash_seed(), 15, 1))?;
         if said != Err(Refused(26)) || world.image != stopped {
             return Err(format!("another store's table says {said:?}"));
         }
     }
-    let said = E::replay(&mut world.image, world.n, &log, world.sync, hash_seed(), &log_hashes(&log));
+    let said = replay::<E>(world, &log, hash_seed())?;
     *told += &format!(" {said:?}");
     if let Some(store) = store.as_deref_mut() {
         store.open().map_err(trouble)?;
@@ -292,7 +292,7 @@ fn sync<E: Engine>(
             store.put_back(&mixture, &their_log);
         }
         world.image = mixture;
-        let said = E::replay(&mut world.image, world.n, &log, world.sync, hash_seed(), &log_hashes(&log));
+        let said = replay::<E>(world, &log, hash_seed())?;
         *told += &format!(" {said:?}");
         if let Some(store) = store {
             store.open().map_err(trouble)?;
@@ -300,6 +300,17 @@ fn sync<E: Engine>(
     }
     world.tags = tags_of(&world.image, world.n).to_vec();
     Ok(())
+}
+
+/// A log that was finished is replayed by the default call as by the tolerant one.
+fn replay<E: Engine>(world: &mut World, log: &[u8], seed: &Seed) -> Result<Answer<Replayed>, String> {
+    let (hashes, mut other) = (log_hashes(log), world.image.clone());
+    let tolerant = E::replay(&mut other, world.n, log, world.sync, seed, &hashes, AfterEnd::Tolerant);
+    let said = E::replay(&mut world.image, world.n, log, world.sync, seed, &hashes, AfterEnd::Zeros);
+    match said == tolerant && world.image == other {
+        true => Ok(said),
+        false => Err(format!("the tolerant call says {tolerant:?}, the default call {said:?}")),
+    }
 }
 
 fn look<E: Engine>(world: &World, store: Option<&Running>, label: Label, told: &mut String) -> Result<(), String> {

@@ -16,6 +16,7 @@ use crate::{
     second::{edition, retold},
 };
 use model::{
+    after_end::AfterEnd::{self, Tolerant, Zeros},
     diff::{Diff, Packed, NODE, SLOTS},
     edition::{Edition, Seed, Start},
     reader::Entry,
@@ -26,9 +27,9 @@ use model::{
 use original::log::Builder;
 
 /// A store whose seed looks like marks.
-const STORE: Seed = [0xB2, 2, 0xB2, 1, 3, 4, 0xB2, 3, 0, 0, 0, 0, 0xB2, 4, 2, 0xB2];
+pub const STORE: Seed = [0xB2, 2, 0xB2, 1, 3, 4, 0xB2, 3, 0, 0, 0, 0, 0xB2, 4, 2, 0xB2];
 
-const EDITIONS: [Edition; 2] = [Edition::One, Edition::Two];
+pub const EDITIONS: [Edition; 2] = [Edition::One, Edition::Two];
 
 /// A diff of so many slots.
 fn slots(count: u32) -> u128 {
@@ -66,40 +67,51 @@ fn entry(record: &Record) -> Entry {
     }
 }
 
-/// Writes the records and the end; how many entries come back as they were written, and the log.
-fn back<E: Engine>(input: &Back) -> model::Answer<(u64, Vec<u8>)> {
-    let mut log = vec![0xEE; PAGE * input.pages];
-    let mut w = E::begin(&mut log, Writer::Fresh, input.start)?;
-    for record in &input.records {
+/// Writes a log: its length, and the writer's state after it.
+pub fn write<E: Engine>(log: &mut [u8], w: Writer, start: Start, records: &[Record]) -> model::Answer<(u64, Writer)> {
+    let mut w = E::begin(log, w, start)?;
+    for record in records {
         w = match entry(record) {
-            Entry::Clear { bucket } => E::write_clear(&mut log, w, bucket)?,
+            Entry::Clear { bucket } => E::write_clear(log, w, bucket)?,
             Entry::Update { id, diff, elided, bucket, .. } => {
                 let Record::Update { with, .. } = *record else { unreachable!() };
-                E::write_update(&mut log, w, &id, diff, &fields(diff, with).0, &elided, bucket)?
+                E::write_update(log, w, &id, diff, &fields(diff, with).0, &elided, bucket)?
             }
             Entry::End => w,
         };
     }
-    let (length, _) = E::finish(&mut log, w)?;
-    log.truncate(length as usize);
-    if E::reader_set(&log)? != input.start {
-        return Ok((0, log));
+    E::finish(log, w)
+}
+
+/// How many entries of a log, its end among them, come back as they were written.
+pub fn come_back<E: Engine>(log: &[u8], start: Start, records: &[Record], after: AfterEnd) -> model::Answer<u64> {
+    if E::reader_set(log)? != start {
+        return Ok(0);
     }
-    let edition = input.start.edition();
+    let edition = start.edition();
     let (mut at, mut came) = (edition.first(), 0);
-    for wanted in input.records.iter().map(entry).chain([Entry::End]) {
-        let (read, after) = E::reader_next(&log, edition, at)?;
+    for wanted in records.iter().map(entry).chain([Entry::End]) {
+        let (read, next) = E::reader_next(log, edition, at, after)?;
         came += (read == wanted) as u64;
-        at = after;
+        at = next;
     }
-    Ok((came, log))
+    Ok(came)
+}
+
+/// Writes the log and reads it back, by the default call and by the tolerant one.
+fn back<E: Engine>(input: &Back) -> model::Answer<([u64; 2], Vec<u8>)> {
+    let mut log = vec![0xEE; PAGE * input.pages];
+    let (length, _) = write::<E>(&mut log, Writer::Fresh, input.start, &input.records)?;
+    log.truncate(length as usize);
+    let came = |after| come_back::<E>(&log, input.start, &input.records, after);
+    Ok(([came(Zeros)?, came(Tolerant)?], log))
 }
 
 /// The log as the original writes it.
-fn written(input: &Back) -> original::Said<Vec<u8>> {
+pub fn written(sync: u32, records: &[Record]) -> original::Said<Vec<u8>> {
     let mut builder = Builder::with_initial_size(PAGE)?;
-    builder.reset(input.start.sync)?;
-    for record in &input.records {
+    builder.reset(sync)?;
+    for record in records {
         match entry(record) {
             Entry::Clear { bucket } => builder.write_clear(bucket)?,
             Entry::Update { id, diff, nodes, elided, bucket } => {
@@ -120,13 +132,15 @@ impl Op for BackOp {
     }
 
     fn run<E: Engine>(input: &Back) -> Out {
-        Out::of(back::<E>(input), |(came, log)| Out::value("came back", &[came]).with("log", log))
+        Out::of(back::<E>(input), |(came, log)| Out::value("came back", &came).with("log", log))
     }
 
     fn original(input: &Back) -> Heard {
         let all = input.records.len() as u64 + 1;
-        Did::of(written(input), |log| Did::value("came back", &[all]).with("log", retold(&log, &input.start.seed)))
-            .plain()
+        Did::of(written(input.start.sync, &input.records), |log| {
+            Did::value("came back", &[all, all]).with("log", retold(&log, &input.start.seed))
+        })
+        .plain()
     }
 
     fn smaller(input: &Back) -> Vec<Back> {
@@ -159,7 +173,7 @@ fn first_bytes(run: &mut Run) {
             let log = Log { changed: vec![(0, a), (1, b)], ..good.clone() };
             run.case::<ReadOp>(Set(log.clone()));
             if a == 1 || a == 0xB2 || b == 1 {
-                run.case::<ReadOp>(Walk(log.clone()));
+                run.case::<ReadOp>(Walk(log.clone(), Tolerant));
                 run.case::<ReadOp>(List(log.clone()));
                 for seed in [STORE, [0; 16]] {
                     run.case::<ReplayOp>(replay::Input { seed, ..replay::Input::new(table.clone(), log.clone()) });
@@ -191,7 +205,7 @@ fn zeroed(log: &Log, from: usize) -> Log {
 /// Every byte changed; cut after every byte, with zeros up to whole pages and without.
 fn damaged(run: &mut Run) {
     for log in second_logs() {
-        for changed in changed_bytes(&log) {
+        for (changed, both) in changed_bytes(&log) {
             let (at, byte) = changed.changed[0];
             if at < 24 {
                 run.case::<ReadOp>(Set(changed.clone()));
@@ -200,24 +214,24 @@ fn damaged(run: &mut Run) {
             if [0, 1, 2, 3, 4, 0xB2].contains(&byte) && at < 140 {
                 run.case::<ReadOp>(List(changed.clone()));
             }
-            run.case::<ReadOp>(Walk(changed));
+            run.sample::<ReadOp>(Walk(changed, Tolerant), both);
         }
         let lengths = [4095, 4096, 4097, 8191, 8192, 8193, 12_288, 65_535, 65_536, 65_537, 69_632];
         for len in (0..(log.used() + 3).min(300)).chain(lengths) {
             let cut = Log { cut: Some(len), ..log.clone() };
             run.case::<ReadOp>(Set(cut.clone()));
-            run.case::<ReadOp>(Walk(cut.clone()));
+            run.case::<ReadOp>(Walk(cut.clone(), Tolerant));
             run.case::<ReadOp>(List(cut.clone()));
-            run.case::<ReadOp>(Walk(zeroed(&log, len)));
+            run.case::<ReadOp>(Walk(zeroed(&log, len), Tolerant));
             // An entry of a log that ends there.
             for record in 0..log.records.len() {
-                run.case::<ReadOp>(Next(cut.clone(), Edition::Two, log.start(record)));
+                run.case::<ReadOp>(Next(cut.clone(), Edition::Two, log.start(record), Tolerant));
             }
         }
         let len = log.bytes().len() as u64;
         for at in (0..len + 3).chain([1 << 32, u64::MAX - 60, u64::MAX - 1, u64::MAX]) {
             for edition in EDITIONS {
-                run.case::<ReadOp>(Next(log.clone(), edition, at));
+                run.case::<ReadOp>(Next(log.clone(), edition, at, Tolerant));
             }
         }
     }
@@ -228,7 +242,7 @@ fn damaged(run: &mut Run) {
         }
         run.case::<ReadOp>(List(Log { changed: vec![(0, 2)], ..log.clone() }));
         for at in 0..log.used() as u64 + 2 {
-            run.case::<ReadOp>(Next(log.clone(), Edition::Two, at));
+            run.case::<ReadOp>(Next(log.clone(), Edition::Two, at, Tolerant));
         }
     }
     last_bytes(run);
@@ -243,7 +257,7 @@ fn last_bytes(run: &mut Run) {
                 let last = [(PAGE - 3, a), (PAGE - 2, b), (PAGE - 1, c)];
                 let log = Log { changed: last.to_vec(), ..Log::new(7, &[]).of_store(STORE) };
                 for at in PAGE - 3..=PAGE {
-                    run.case::<ReadOp>(Next(log.clone(), Edition::Two, at as u64));
+                    run.case::<ReadOp>(Next(log.clone(), Edition::Two, at as u64, Tolerant));
                 }
             }
         }
@@ -440,8 +454,8 @@ fn replays(run: &mut Run) {
         }
     }
     for log in second_logs() {
-        for changed in changed_bytes(&log) {
-            run.case::<ReplayOp>(replay::Input::new(table(3), changed));
+        for (changed, both) in changed_bytes(&log) {
+            run.sample::<ReplayOp>(replay::Input::new(table(3), changed), both);
         }
         for len in [0, 1, 22, 4095, 4096, 4097, 8192, 12_288] {
             for sync in [log.sync, log.sync.wrapping_add(1)] {
@@ -501,7 +515,7 @@ pub fn exhaustive(run: &mut Run) {
 }
 
 /// A log of one edition or the other.
-fn any_edition(rng: &mut Rng, log: Log) -> Log {
+pub fn any_edition(rng: &mut Rng, log: Log) -> Log {
     match rng.below(4) {
         0 => log,
         1 => log.of_store(*hash_seed()),
@@ -522,10 +536,10 @@ fn random_read(run: &mut Run, rng: &mut Rng) {
         1 => {
             let edition = rng.pick(&EDITIONS);
             let at = if rng.once_in(10) { rng.number() } else { rng.below(log.used() as u64 + 4) };
-            run.case::<ReadOp>(Next(log, edition, at));
+            run.case::<ReadOp>(Next(log, edition, at, Tolerant));
         }
         2 if rng.once_in(4) => run.case::<ReadOp>(List(log)),
-        _ => run.case::<ReadOp>(Walk(log)),
+        _ => run.case::<ReadOp>(Walk(log, Tolerant)),
     }
 }
 
@@ -569,19 +583,22 @@ fn random_replay(run: &mut Run, rng: &mut Rng) {
     run.case::<ReplayOp>(input);
 }
 
+/// A clear or a good update, of a bucket by chance.
+pub fn good_record(rng: &mut Rng, bucket: impl Fn(&mut Rng) -> u64) -> Record {
+    match rng.below(3) {
+        0 => Record::Clear(bucket(rng)),
+        _ => Record::Update {
+            label: Label { hash: rng.next(), free: rng.below(3) },
+            diff: crate::input::good_diff(rng),
+            with: rng.next(),
+            bucket: bucket(rng),
+        },
+    }
+}
+
 fn random_back(run: &mut Run, rng: &mut Rng) {
     let count = rng.below(12) as usize;
-    let records = (0..count)
-        .map(|_| match rng.below(3) {
-            0 => Record::Clear(rng.number()),
-            _ => Record::Update {
-                label: Label { hash: rng.next(), free: rng.below(3) },
-                diff: crate::input::good_diff(rng),
-                with: rng.next(),
-                bucket: rng.number(),
-            },
-        })
-        .collect();
+    let records = (0..count).map(|_| good_record(rng, Rng::number)).collect();
     let sync = rng.number() as u32;
     let start = if rng.once_in(3) { Start::one(sync) } else { Start::two(sync, any_seed(rng)) };
     run.case::<BackOp>(Back { start, records, pages: count + 2 });
