@@ -1,6 +1,7 @@
 //! Ours and the original in one process, on the same inputs: a table of times and ratios, and how cost
 //! grows. `bench OUT.svg` also draws the latter; `bench --quick` leaves the largest tables out.
 
+mod after;
 mod clock;
 mod inputs;
 mod leaves;
@@ -18,6 +19,7 @@ fn rows(quick: bool, rng: &mut Rng) -> Vec<Row> {
     rows.extend(leaves::unpack(rng));
     rows.extend(leaves::log(rng));
     rows.extend(leaves::clears(rng));
+    rows.extend(after::zeros(rng));
     let sizes: &[u32] = if quick { &[14] } else { &[14, 20] };
     for &bits in sizes {
         rows.extend(path::allocation(bits, rng));
