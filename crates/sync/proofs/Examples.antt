@@ -2,7 +2,7 @@
 -- nothing.
 use mathlib.Core.Path.{_≡_, refl}
 use mathlib.Core.List.{List, [], _∷_, _++_, map}
-use Prim.Native.Nat.{ℕ, _+_, _-_, _^_}
+use Prim.Native.Nat.{ℕ, _+_, _-_, _*_, _^_}
 use native.Mathlib.Omega.{arith}
 use lib.ListN.{replicate}
 use Rattle.answers.specs.Answers.{Answer, given, refused}
@@ -22,8 +22,9 @@ use Rattle.wal.specs.declared.Writer.the-variants.{Fresh, Finished}
 use Rattle.recover.specs.Places.{withHashes}
 use Rattle.recover.specs.Replay.{applied, allInside, updatesIn, checkAnswer, replayTests, replayAnswer, replayImage, stepsOf, stepImage}
 use Rattle.sync.proofs.Labels.{Labelled, elsewhere, step-labelled, replay-labelled}
-use Rattle.sync.specs.Change.{Mem, memOf, whereOf, placeOf, cleared, effectOf, memBy, stateOf, stateBy, pageNumber, takenSaid}
+use Rattle.sync.specs.Change.{Mem, memOf, whereOf, placeOf, doesOf, cleared, effectOf, memBy, stateOf, stateBy, pageNumber, takenSaid}
 use Rattle.sync.specs.Sync.{changeAt, changeMem, allOf, memAll, runSaid, on, unbegun, stopped, beforeChanges, saidDone, saidRefused, saidRefusedAt, syncSays, syncMem, syncWriter, syncedSaid}
+use Rattle.sync.proofs.Narrowed.{formerEffect}
 use Rattle.sync.specs.declared.Change.{Change}
 use Rattle.sync_parts.specs.declared.Where.{Where}
 use Rattle.sync_parts.specs.declared.Where.the-variants.{Known, Fresh as FreshPage, Cell}
@@ -43,23 +44,23 @@ mem ts cells = memOf ts (9 ∷ []) cells (replicate 4096 6)
 abbrev unset : ℕ
 unset = 2 ^ 64 - 1
 
--- a change of the page with the id 1 .. 1 and the hash 0, with these words; and its page: 2s in slot 0, 4s for the
+-- a change of the page with the id 1 .. 1 and this hash, with these words; and its page: 2s in slot 0, 4s for the
 -- elided children, 8s for the id
-abbrev change : ℕ → ℕ → Where → Change
-change lo hi w = record { id = replicate 32 1; hash = 0; diff = record { words = lo ∷ hi ∷ [] }; place = placeOf w }
+abbrev change : ℕ → ℕ → ℕ → Where → Change
+change hash lo hi w = record { id = replicate 32 1; hash = hash; diff = record { words = lo ∷ hi ∷ [] }; place = placeOf w }
 
 abbrev page : List ℕ
 page = replicate 32 2 ++ (replicate 4024 0 ++ (replicate 8 4 ++ replicate 32 8))
 
--- an update of slot 0, a clear, and a diff with bit 126 beside the clear's
+-- an update of slot 0, whose hash has the tag 0x80; a clear, whose hash has the tag 0x85; and a diff with bit 126 beside the clear's
 abbrev updating : Where → Change
-updating w = change 1 0 w
+updating w = change 0 1 0 w
 
 abbrev clearing : Where → Change
-clearing w = change 0 (2 ^ 63) w
+clearing w = change (5 * 2 ^ 57) 0 (2 ^ 63) w
 
 abbrev reserved : Where → Change
-reserved w = change 0 (2 ^ 63 + 2 ^ 62) w
+reserved w = change 0 0 (2 ^ 63 + 2 ^ 62) w
 
 -- what a step answers
 abbrev stepped : SyncState → Mem → List ℕ → Change → Answer (ℕ × ℕ)
@@ -76,12 +77,12 @@ pub steps : (stepped (stateOf 0 hitLimit Fresh 5) (mem (tags 0 0 0) []) [] (rese
     ∷ stepped (stateOf 3 hitLimit Fresh 5) (mem (tags 0 0 0) []) [] (reserved (Cell 0)) ∷ stepped (stateOf 3 hitLimit Fresh 5) (memOf (tags 0 0 0) [] [] []) page (reserved (Cell 0))
     ∷ stepped (stateOf 3 hitLimit Fresh 5) (mem (tags 0 0 0) []) page (reserved (Cell 0)) ∷ stepped (stateOf 3 hitLimit (Finished 4096) 5) (mem (tags 0 0 0) []) page (reserved (Cell 0)) ∷ [])
     ∷ (asked (tags 0 0 0) [] (reserved (Cell 0)) ∷ asked (tags 0 0 0) [] (updating (Cell 0)) ∷ asked (tags 0 0 0) (3 ∷ []) (updating (Cell 0)) ∷ asked (tags 0 0 0) [] (clearing (Known 3))
-    ∷ asked (tags 0x7F 0 0) [] (clearing (Known 0)) ∷ asked (tags 0 0 0) [] (clearing FreshPage) ∷ asked (tags 0 0 0) (unset ∷ []) (clearing (Cell 0)) ∷ asked (tags 0x81 0 0) [] (updating (Known 0)) ∷ [])
-    ∷ (stepped (stateOf 3 hitLimit (openAt One 4087) 5) (mem (tags 0x81 0 0) []) page (clearing (Known 0)) ∷ stepped (stateOf 3 hitLimit (openAt One 3999) 5) (mem (tags 0x81 0x81 0) []) page (updating FreshPage)
+    ∷ asked (tags 0x7F 0 0) [] (clearing (Known 0)) ∷ asked (tags 0 0 0) [] (clearing FreshPage) ∷ asked (tags 0 0 0) (unset ∷ []) (clearing (Cell 0)) ∷ asked (tags 0x81 0 0) [] (updating (Known 0)) ∷ asked (tags 0x81 0 0) [] (clearing (Known 0)) ∷ [])
+    ∷ (stepped (stateOf 3 hitLimit (openAt One 4087) 5) (mem (tags 0x85 0 0) []) page (clearing (Known 0)) ∷ stepped (stateOf 3 hitLimit (openAt One 3999) 5) (mem (tags 0x81 0x81 0) []) page (updating FreshPage)
     ∷ asked (tags 0x80 0x81 0) [] (updating FreshPage) ∷ asked (tags 0x81 0x81 0) [] (updating FreshPage) ∷ [])
     ∷ (asked (tags 0 0x85 0) [] (clearing (Known 1)) ∷ asked (tags 0x80 0 0) [] (updating (Known 0)) ∷ asked (tags 0x81 0x7F 0) [] (updating FreshPage)
     ∷ asked (tags 0 0 0x80) (2 ∷ []) (updating (Cell 0)) ∷ asked (tags 0 0 0) (unset ∷ []) (updating (Cell 0)) ∷ []) ∷ []
-    ≡ (refused 1 ∷ refused 1 ∷ refused 2 ∷ refused 2 ∷ refused 12 ∷ refused 12 ∷ []) ∷ (refused 4 ∷ refused 2 ∷ refused 9 ∷ refused 9 ∷ refused 14 ∷ refused 14 ∷ refused 14 ∷ refused 14 ∷ [])
+    ≡ (refused 1 ∷ refused 1 ∷ refused 2 ∷ refused 2 ∷ refused 12 ∷ refused 12 ∷ []) ∷ (refused 4 ∷ refused 2 ∷ refused 9 ∷ refused 9 ∷ refused 14 ∷ refused 14 ∷ refused 14 ∷ refused 14 ∷ refused 14 ∷ [])
     ∷ (refused 13 ∷ refused 13 ∷ refused 10 ∷ refused 11 ∷ []) ∷ (given (1, 2) ∷ given (0, 1) ∷ given (1, 2) ∷ given (2, 3) ∷ given (0, 1) ∷ []) ∷ []
 unfolding effectOf allocating marked slotsBelow
 steps = refl
@@ -205,3 +206,9 @@ labels = (
   replay-labelled Zeros 1 (replicate 8192 0) labelLog (record { sync = 7; seed = replicate 16 0 }) (0 ∷ []) accepted (record { entry = clear 0; hash = 0 } ∷ []) [] (replicate 32 1) (1 ∷ 0 ∷ []) (replicate 32 5 ∷ []) (replicate 8 2) 0 0 its-steps refl refl refl,
   step-labelled Zeros 1 (replicate 8192 0) One labelLog 14 0 (replicate 32 1) (1 ∷ 0 ∷ []) (replicate 32 5 ∷ []) (replicate 8 2) 0 111 refl its-second (omega arith) refl refl,
 )
+
+-- a clear that `Narrowed` speaks of: bucket 0 is full with another tag. Document 01's rule took it; it is refused with 14, and its own is taken
+pub narrowed : (formerEffect open5 (mem (tags 0x81 0 0) []) page (clearing (Known 0)) ∷ effectOf open5 (mem (tags 0x81 0 0) []) page (clearing (Known 0)) ∷ effectOf open5 (mem (tags 0x85 0 0) []) page (clearing (Known 0)) ∷ []
+    ≡ given (cleared 0) ∷ refused 14 ∷ given (cleared 0) ∷ [])
+unfolding effectOf doesOf marked slotsBelow
+narrowed = refl

@@ -6,6 +6,7 @@ pub mod Labels
 pub mod LiveTags
 pub mod Logged
 pub mod Occupied
+pub mod Narrowed
 pub mod OneAnswer
 pub mod Plans
 pub mod Promises

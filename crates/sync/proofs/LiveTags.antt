@@ -36,8 +36,8 @@ named-tag cl n tags h (refused k) b e = let z : _≡_ {A = ℕ} 0 1 = cc in absu
 named-tag true n tags h (given none) b e = let z : _≡_ {A = ℕ} 0 1 = cc in absurd (omega arith)
 named-tag false n tags h (given none) b e = let z : _≡_ {A = ℕ} 0 1 = cc in absurd (omega arith)
 named-tag cl n tags h (given (bucket x)) b e =
-    let q = named-bucket cl (ltb x n) (tagFits cl h (getD tags x 0)) x b e in
-    sym (ap (λ (y : ℕ). getD tags y 0) (q .2)) ∙ eqb-true (getD tags x 0) (fullTag h) (sym (ap (λ (y : Bool). tagFits y h (getD tags x 0)) (q .0)) ∙ q .1)
+    let q = named-bucket cl (ltb x n) (tagFits h (getD tags x 0)) x b e in
+    sym (ap (λ (y : ℕ). getD tags y 0) (q .2)) ∙ eqb-true (getD tags x 0) (fullTag h) (q .1)
 
 twice : (t : Bool) (x y z : ℕ) → cond t x z ≡ cond t (cond t x y) z
 twice true x y z = refl

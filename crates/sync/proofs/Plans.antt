@@ -56,23 +56,23 @@ module _ (n : ℕ) (tags cells : List ℕ) (c : Change) where
       ∙ sym (ap₂ (λ (b : Bool) (x : Answer Named). byNamed b n tags (c .hash) x) f g)
 
 -- ---- what an accepted plan rests on
--- a named bucket is inside the table and has the tag that the rule asks for; only a clearing change clears
+-- a named bucket is inside the table and has the hash's tag; only a clearing change clears
 pub data Told (n : ℕ) (tags : List ℕ) (h : ℕ) (clearing : Bool) : Does → Type 0 where
-  as-clear : {b : ℕ} → b < n → clearing ≡ true → tagFits true h (getD tags b 0) ≡ true → Told n tags h clearing (clears b)
-  as-update : {b : ℕ} → b < n → clearing ≡ false → tagFits false h (getD tags b 0) ≡ true → Told n tags h clearing (updates b)
+  as-clear : {b : ℕ} → b < n → clearing ≡ true → tagFits h (getD tags b 0) ≡ true → Told n tags h clearing (clears b)
+  as-update : {b : ℕ} → b < n → clearing ≡ false → tagFits h (getD tags b 0) ≡ true → Told n tags h clearing (updates b)
   as-new : clearing ≡ false → Told n tags h clearing allocates
 
 named-told : (n : ℕ) (tags : List ℕ) (h : ℕ) (cl : Bool) (a : Answer Named) (d : Does) → byNamed cl n tags h a ≡ given d → Told n tags h cl d
 named-told n tags h cl (refused k) d e = absurd (given-refused d k (sym e))
 named-told n tags h true (given none) d e = absurd (given-refused d 14 (sym e))
 named-told n tags h false (given none) d e = subst (Told n tags h false) (given-one allocates d e) (as-new refl)
-named-told n tags h cl (given (bucket x)) d e = go (ltb x n) refl (tagFits cl h (getD tags x 0)) refl e
+named-told n tags h cl (given (bucket x)) d e = go (ltb x n) refl (tagFits h (getD tags x 0)) refl e
   where
-    kind : (v : Bool) → cl ≡ v → x < n → tagFits cl h (getD tags x 0) ≡ true → Told n tags h cl (doesWith v x)
-    kind true s l q = as-clear l s (sym (ap (λ (y : Bool). tagFits y h (getD tags x 0)) s) ∙ q)
-    kind false s l q = as-update l s (sym (ap (λ (y : Bool). tagFits y h (getD tags x 0)) s) ∙ q)
+    kind : (v : Bool) → cl ≡ v → x < n → tagFits h (getD tags x 0) ≡ true → Told n tags h cl (doesWith v x)
+    kind true s l q = as-clear l s q
+    kind false s l q = as-update l s q
 
-    go : (t : Bool) → ltb x n ≡ t → (u : Bool) → tagFits cl h (getD tags x 0) ≡ u → cond t (cond u (given (doesWith cl x)) (refused 14)) (refused 9) ≡ given d → Told n tags h cl d
+    go : (t : Bool) → ltb x n ≡ t → (u : Bool) → tagFits h (getD tags x 0) ≡ u → cond t (cond u (given (doesWith cl x)) (refused 14)) (refused 9) ≡ given d → Told n tags h cl d
     go true p true q r = subst (Told n tags h cl) (given-one (doesWith cl x) d r) (kind cl refl (ltb-true x n p) q)
     go true p false q r = absurd (given-refused d 14 (sym r))
     go false p u q r = absurd (given-refused d 9 (sym r))

@@ -161,7 +161,7 @@ does-number n tags cells c k e = spare (marked (c .diff .words) 126) (marked (c 
     named cl (refused i) f q = subst OfChange (sym (f i refl) ∙ refused-one i k q) cell-index
     named true (given none) f q = subst OfChange (refused-one 14 k q) bucket-unfit
     named false (given none) f q = absurd (given-refused allocates k q)
-    named cl (given (bucket x)) f q = tests (ltb x n) (tagFits cl (c .hash) (getD tags x 0)) q
+    named cl (given (bucket x)) f q = tests (ltb x n) (tagFits (c .hash) (getD tags x 0)) q
       where
         tests : (t u : Bool) → cond t (cond u (given (doesWith cl x)) (refused 14)) (refused 9) ≡ refused k → OfChange k
         tests true true q = absurd (given-refused (doesWith cl x) k q)

@@ -122,7 +122,7 @@ no-allocation cl false u x r = given-refused allocates 9 (sym r)
 
 unset : (cl inside empty : Bool) (n : ℕ) (tags : List ℕ) (h v : ℕ) → byNamed cl n tags h (cond inside (given (cond empty none (bucket v))) (refused 2)) ≡ given allocates → (inside ≡ true) × (empty ≡ true)
 unset cl true true n tags h v r = (refl, refl)
-unset cl true false n tags h v r = absurd (no-allocation cl (ltb v n) (tagFits cl h (getD tags v 0)) v r)
+unset cl true false n tags h v r = absurd (no-allocation cl (ltb v n) (tagFits h (getD tags v 0)) v r)
 unset cl false empty n tags h v r = absurd (given-refused allocates 2 (sym r))
 
 -- "an unset cell, allocates (the cell then has the bucket)"; every other cell is as before

@@ -70,7 +70,7 @@ doesWith false b = updates b
 abbrev pub byNamed : Bool → ℕ → List ℕ → ℕ → Answer Named → Answer Does
 byNamed clearing n tags h (refused k) = refused k
 byNamed clearing n tags h (given (bucket b)) =
-    cond (ltb b n) (cond (tagFits clearing h (getD tags b 0)) (given (doesWith clearing b)) (refused 14)) (refused 9)
+    cond (ltb b n) (cond (tagFits h (getD tags b 0)) (given (doesWith clearing b)) (refused 14)) (refused 9)
 byNamed clearing n tags h (given none) = cond clearing (refused 14) (given allocates)
 
 -- "each change: 4, cell index 2, 9, 14": bit 126 is never allowed, bit 127 makes it a clearing change

@@ -151,7 +151,7 @@ fn plan_named(tags: &[u8], n: usize, clearing: bool, hash: u64, b: u64) -> Plann
 {
     if b < n as u64 {
         let i = b as usize;
-        if sync_parts::tag_fits(clearing, hash, tags[i]) {
+        if sync_parts::tag_fits(hash, tags[i]) {
             if clearing {
                 return Planned::Clears(b);
             }

@@ -20,10 +20,9 @@ names = refl
 pub said : map nameSaid (N.Bucket 7 ∷ N.None ∷ N.Refused LengthUnfit ∷ []) ≡ given (bucket 7) ∷ given none ∷ refused 2 ∷ []
 said = refl
 
--- a clear takes any full tag, an update the hash's alone
-pub rule : (map (tagFits true (2 ^ 57)) (0x80 ∷ 0x81 ∷ 0x7F ∷ 0 ∷ []) ≡ true ∷ true ∷ false ∷ false ∷ [])
-    × (map (tagFits false (2 ^ 57)) (0x80 ∷ 0x81 ∷ 0x7F ∷ 0 ∷ []) ≡ false ∷ true ∷ false ∷ false ∷ [])
-rule = (refl, refl)
+-- the hash's tag alone: no other full one
+pub rule : map (tagFits (2 ^ 57)) (0x80 ∷ 0x81 ∷ 0x7F ∷ 0 ∷ []) ≡ false ∷ true ∷ false ∷ false ∷ []
+rule = refl
 
 pub bodies : bodyOf true (5 ∷ 0 ∷ []) ∷ bodyOf false (5 ∷ 0 ∷ []) ∷ [] ≡ 8 ∷ 128 ∷ []
 unfolding slotsBelow marked

@@ -1,4 +1,4 @@
--- 01, 'Sync': what its parts decide and write. Assumes nothing.
+-- 01, 'Sync', and 02, W-203: what its parts decide and write. Assumes nothing.
 use mathlib.Core.Bool.{Bool, true, false, cond}
 use mathlib.Core.List.{List}
 use Prim.Native.Nat.{ℕ, _-_, _^_}
@@ -7,7 +7,7 @@ use lib.ListN.{length, getD, set}
 use Rattle.answers.specs.Answers.{Answer, given, refused}
 use Rattle.answers.specs.Refusals.{numberOf}
 use Rattle.ht_file.specs.Places.{tagsFit}
-use Rattle.meta_map.specs.Tags.{full, isKind, kindOf, fullTag, countOf}
+use Rattle.meta_map.specs.Tags.{full, fullTag, countOf}
 use Rattle.page_diff.specs.Diff as diff
 use Rattle.wal.specs.Log.{clearBody, updateBody}
 use Rattle.sync_parts.specs.declared.Where.{Where}
@@ -35,10 +35,10 @@ nameSaid (N.Bucket b) = given (bucket b)
 nameSaid N.None = given none
 nameSaid (N.Refused r) = refused (numberOf r)
 
--- the tag rule: "Cleared diff: [..] its tag full"; "Else: known, or a set cell, needs that tag to be the hash's"
-abbrev pub tagFits : Bool → ℕ → ℕ → Bool
-tagFits true h t = isKind full (kindOf t)
-tagFits false h t = eqb t (fullTag h)
+-- the tag rule: "known, or a set cell, needs that tag to be the hash's"; and of a clearing change, 02, W-203: "the tag must be the full tag of the page's
+-- own hash"
+abbrev pub tagFits : ℕ → ℕ → Bool
+tagFits h t = eqb t (fullTag h)
 
 -- the bytes after its record's mark: of a clear; of an update with the marked nodes of its page
 abbrev pub bodyOf : Bool → List ℕ → ℕ

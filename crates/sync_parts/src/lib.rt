@@ -46,13 +46,10 @@ pub fn name_of(place: Where, cells: &[u64]) -> Name
     }
 }
 
-// The tag rule: a clear needs a full tag, an update the hash's.
-pub fn tag_fits(clearing: bool, hash: u64, tag: u8) -> bool
-    ensures { λ r. ⌜ r ≡ tagFits clearing hash tag ⌝ }
+// The tag rule: a named bucket has the tag of the page's own hash, whether it is updated or cleared.
+pub fn tag_fits(hash: u64, tag: u8) -> bool
+    ensures { λ r. ⌜ r ≡ tagFits hash tag ⌝ }
 {
-    if clearing {
-        return meta_map::is_full(tag);
-    }
     tag == meta_map::full_entry(hash)
 }
 

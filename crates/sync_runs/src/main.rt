@@ -1,7 +1,7 @@
 // Syncs at the edges that document 01 names: lengths, cells, buckets, tags and diffs that are refused, and
-// changes that meet the same cell or bucket. Each line is a title, the answer, and what stands afterwards
-// in the first four tags, the mark, the first two cells, the writer and some bytes of the log. The file
-// `stdout` is worked out from document 01 apart from this code.
+// changes that meet the same cell or bucket; and the clears that W-203 refuses. Each line is a title, the
+// answer, and what stands afterwards in the first four tags, the mark, the first two cells, the writer and
+// some bytes of the log. The file `stdout` is worked out from documents 01 and 02 apart from this code.
 use answers::Refusal;
 use page_diff::Diff;
 use sync::Change;
@@ -29,10 +29,12 @@ const BIT_126: u64 = 0x4000_0000_0000_0000;
 
 const CLEARED: u64 = 0x8000_0000_0000_0000;
 
-// The full tag of hash 0, and one that is not.
+// The full tag of hash 0; one that is not, and a hash that has it.
 const MINE: u8 = 0x80;
 
 const OTHER: u8 = 0x81;
+
+const OTHERS: u64 = 0x0200_0000_0000_0000;
 
 // What the marks and the log hold before a call.
 const WAS: u8 = 9;
@@ -495,6 +497,13 @@ fn buckets_refused() {
         UNSET,
         change(0, CLEARED, sync::cell(0)),
     );
+    one(
+        b"clear with another tag",
+        OTHER,
+        0,
+        UNSET,
+        change(0, CLEARED, sync::known(0)),
+    );
 }
 
 fn diffs_refused() {
@@ -515,7 +524,7 @@ fn one_cell() {
 }
 
 fn taken_again() {
-    let c = change(0, CLEARED, sync::known(0));
+    let c = change(OTHERS, CLEARED, sync::known(0));
     two(b"cleared and taken again", OTHER, 0, UNSET, c, fresh());
 }
 
@@ -558,6 +567,17 @@ fn steps() {
     );
 }
 
+// The clear's record would end where the log does and leave no byte for the end: 13. Its tag is looked at before that.
+fn no_room() {
+    let full = Writer::Open(8183, Edition::One);
+    stepped(b"step, no room", full, change(0, CLEARED, sync::known(1)));
+    stepped(
+        b"step, no room, another tag",
+        full,
+        change(OTHERS, CLEARED, sync::known(1)),
+    );
+}
+
 fn main() {
     no_changes();
     one(b"one fresh", 0, 0, UNSET, fresh());
@@ -573,4 +593,5 @@ fn main() {
     taken_again();
     second_refused();
     steps();
+    no_room();
 }
