@@ -54,7 +54,7 @@ enum {
     BITBOX_PATH_CLOSED = 11,     /* no bucket: neither a free visit nor a hit */
     BITBOX_WRITER_NOT_OPEN = 12, /* the writer has not begun, or has finished */
     BITBOX_NO_ROOM = 13,         /* no room for this record and the end */
-    BITBOX_BUCKET_UNFIT = 14,    /* not the tag that the change needs, or a clear with no bucket */
+    BITBOX_BUCKET_UNFIT = 14,    /* a bucket to update or clear has not the page's own tag, or a clear has no bucket */
     BITBOX_MARKER_LENGTH = 15,   /* a growth marker is 16 bytes */
     BITBOX_MARKER_MAGIC = 16,    /* no growth marker */
     BITBOX_MARKER_ORDER = 17,    /* the new count is not above the old one */
@@ -135,7 +135,7 @@ typedef struct {
     uint64_t at;
 } bitbox_place;
 
-/* A change of a page. */
+/* A change of a page. The hash is the page's own, of a clear too: a bucket that is named must have its tag. */
 typedef struct {
     uint8_t id[32];
     uint64_t hash;

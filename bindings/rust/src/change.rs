@@ -63,6 +63,10 @@ pub struct Change {
 
 impl Change {
     /// A change of the page with this id and hash. A diff that is [`cleared`](Diff::cleared) clears it.
+    ///
+    /// The hash is the page's own, of a clear too: a bucket that is named, to be updated or to be cleared, must have
+    /// its full tag. A tag has seven bits of the hash, so one other page in 128 has the same: who is not sure of a
+    /// bucket looks the id up first ([`lookup`](crate::lookup)).
     pub const fn new(id: PageId, hash: u64, diff: Diff, place: Where) -> Change {
         Change { id, hash, diff, place: Place::of(place) }
     }
@@ -162,7 +166,8 @@ impl Error for SyncRefused {
 /// not 4,096 page bytes for each change and a mark for each tag page; [`NoRoom`](Refusal::NoRoom): the
 /// log's slice is shorter than 4,096 bytes. Then at a change: [`DiffReserved`](Refusal::DiffReserved),
 /// `LengthUnfit` for a cell that is not there, [`BucketOutside`](Refusal::BucketOutside),
-/// [`BucketUnfit`](Refusal::BucketUnfit), `NoRoom`, [`PathCrowded`](Refusal::PathCrowded) or
+/// [`BucketUnfit`](Refusal::BucketUnfit): an update or a clear of a bucket whose tag is not that of the page's own
+/// hash, or a clear without a bucket; `NoRoom`, [`PathCrowded`](Refusal::PathCrowded) or
 /// [`PathClosed`](Refusal::PathClosed).
 pub fn sync(
     lent: &mut Lent<'_>,
@@ -207,7 +212,7 @@ pub struct Step {
 /// # Errors
 ///
 /// In this order: [`TableUnfit`](Refusal::TableUnfit); [`LengthUnfit`](Refusal::LengthUnfit) for the page
-/// or the marks; [`WriterNotOpen`](Refusal::WriterNotOpen); then those of a change.
+/// or the marks; [`WriterNotOpen`](Refusal::WriterNotOpen); then those of a change, as [`sync`] has them.
 pub fn sync_step(lent: &mut Lent<'_>, state: &mut State, change: &Change, page: &[u8]) -> Result<Step, Refusal> {
     let before = ffi::StepState { n: lent.n as u64, writer: state.writer.state(), occupied: state.occupied };
     let answer = ffi::sync_step(lent, page, *change, before);

@@ -72,7 +72,7 @@ refusals! {
     11 PathClosed "No bucket: the page's path has neither a free visit nor a hit.";
     12 WriterNotOpen "The writer has not begun, or has finished.";
     13 NoRoom "The log has no room for this record and its end.";
-    14 BucketUnfit "The bucket's tag is not the one this change needs, or a clear has no bucket.";
+    14 BucketUnfit "The bucket's tag is not that of the page's own hash, or a clear has no bucket.";
     15 MarkerLength "A growth marker is 16 bytes.";
     16 MarkerMagic "This is no growth marker.";
     17 MarkerOrder "The marker's new count is not above its old one.";

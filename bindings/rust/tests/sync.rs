@@ -140,7 +140,7 @@ fn a_sync_refused_at_a_change_keeps_those_before() {
     type Case = (fn(&mut Memory), Change, Refusal);
     let change = |d, place| Change::new(id(2), 0, d, place);
     let bit_126 = Diff::from_words([0, 1 << 62]);
-    let cases: [Case; 14] = [
+    let cases: [Case; 16] = [
         (|_| {}, change(bit_126, Where::Fresh), DiffReserved),
         (|_| {}, change(bit_126.set_cleared(), Where::Known(99)), DiffReserved),
         (|_| {}, change(diff(&[]), Where::Cell(2)), LengthUnfit),
@@ -151,6 +151,8 @@ fn a_sync_refused_at_a_change_keeps_those_before() {
         (|_| {}, change(diff(&[]), Where::Known(1)), BucketUnfit),
         (|m| m.tags[1] = 0x81, change(diff(&[]), Where::Known(1)), BucketUnfit),
         (|m| m.tags[1] = TOMBSTONE, change(cleared(), Where::Known(1)), BucketUnfit),
+        (|m| m.tags[1] = 0x81, change(cleared(), Where::Known(1)), BucketUnfit),
+        (|m| (m.tags[1], m.cells[1]) = (0xFF, 1), change(cleared(), Where::Cell(1)), BucketUnfit),
         (|_| {}, change(cleared(), Where::Fresh), BucketUnfit),
         (|_| {}, change(cleared(), Where::Cell(1)), BucketUnfit),
         (|m| m.log.truncate(PAGE), change(diff(&(0..126).collect::<Vec<_>>()), Where::Fresh), NoRoom),
@@ -266,13 +268,100 @@ fn step_refuses(edition: Edition) {
     };
     refused(full(0x80), open, good, &page, PathCrowded);
     refused(full(0x81), open, good, &page, PathClosed);
+    // A clear of another tag, before the room is looked at and after.
+    let clear = with(cleared(), Where::Known(0));
+    for at in [first, 4 * PAGE] {
+        refused(full(0x81), State { writer: Writer::Open(at, edition), ..open }, clear, &page, BucketUnfit);
+    }
+    refused(full(0x80), State { writer: Writer::Open(4 * PAGE, edition), ..open }, clear, &page, NoRoom);
     // A false count of full buckets does not stop it.
     let mut m = full(0x80);
     let mut state = State { occupied: 0, ..open };
-    let clear = with(cleared(), Where::Known(0));
     assert_eq!(sync_step(&mut m.lent(), &mut state, &clear, &page), Ok(Step { bucket: 0, page: 1 }));
     assert_eq!(state, State { writer: Writer::Open(first + mark + 8, edition), occupied: 0 });
     let mut state = State { occupied: u64::MAX, ..open };
     assert_eq!(sync_step(&mut m.lent(), &mut state, &good, &page), Ok(Step { bucket: 0, page: 1 }));
     assert_eq!(state.occupied, u64::MAX);
+}
+
+/// Page 1 has the hash 3 and was in bucket 3 of 8. It was cleared and stored anew, and is in bucket 4; page 2, of a
+/// hash with this tag, is in bucket 3.
+fn moved(tag: u64) -> (Vec<u8>, u64) {
+    let (mut image, hash) = (image(8), tag << 57 | 3);
+    put(&mut image, 8, 4, 3, &page(1, &id(1)));
+    put(&mut image, 8, 3, hash, &page(2, &id(2)));
+    (image, hash)
+}
+
+/// Clears page 1 in this bucket of the image's tags, by a sync and by a step; the memory that the sync leaves.
+fn clear_one(image: &[u8], bucket: u64, edition: Edition) -> (Memory, Result<Synced, SyncRefused>) {
+    let clear = [Change::new(id(1), 3, cleared(), Where::Known(bucket))];
+    let lent = || Memory { tags: image[..PAGE].to_vec(), edition, ..Memory::new(8) };
+    let (mut m, mut stepped) = (lent(), lent());
+    let synced = m.sync(4, &clear, &pages(&clear));
+
+    let before = stepped.all();
+    let open = State { writer: Writer::Open(sizes(edition).1, edition), occupied: 2 };
+    let mut state = open;
+    let step = sync_step(&mut stepped.lent(), &mut state, &clear[0], &pages(&clear));
+    assert_eq!(step.err(), synced.err().map(|why| why.refusal));
+    if step.is_err() {
+        assert!(stepped.all() == before && state == open, "a refused step leaves what was lent");
+    }
+    (m, synced)
+}
+
+#[test]
+fn a_clear_with_an_old_bucket_number_leaves_the_neighbour() {
+    for edition in EDITIONS {
+        let (mut image, hash) = moved(5);
+        let (m, refused) = clear_one(&image, 3, edition);
+        assert_eq!(refused, Err(SyncRefused { refusal: BucketUnfit, change: Some(0) }));
+        assert_eq!((&m.tags[..], &m.marks[..], &m.cells[..]), (&image[..PAGE], &[0][..], &[UNSET; 2][..]));
+
+        // Who looks the id up first has the right bucket.
+        let found = lookup(&image, 8, 3, &id(1)).expect("a table").bucket();
+        assert_eq!(found, Some(4));
+        let (m, synced) = clear_one(&image, 4, edition);
+        assert_eq!(synced, Ok(Synced { occupied: 1, length: PAGE }));
+        image[..PAGE].copy_from_slice(&m.tags);
+        assert_eq!(lookup(&image, 8, 3, &id(1)), Ok(Found::Absent));
+        assert_eq!(lookup(&image, 8, hash, &id(2)), Ok(Found::At(3)), "the neighbour is there");
+    }
+}
+
+#[test]
+fn a_clear_still_hits_a_neighbour_of_the_same_tag() {
+    // A tag has seven bits of the hash: by chance one neighbour in 128 has the same.
+    let (mut image, hash) = moved(0);
+    let (m, synced) = clear_one(&image, 3, Edition::Two);
+    assert_eq!(synced, Ok(Synced { occupied: 1, length: PAGE }));
+    image[..PAGE].copy_from_slice(&m.tags);
+    assert_eq!(lookup(&image, 8, hash, &id(2)), Ok(Found::Absent));
+    assert_eq!(lookup(&image, 8, 3, &id(1)), Ok(Found::At(4)), "and the page is where it was");
+}
+
+#[test]
+fn of_all_tags_a_clear_takes_its_own_alone() {
+    for hash in [0, 5 << 57 | 3, (1 << 57) - 1, 1 << 63, u64::MAX] {
+        let clear = [Change::new(id(1), hash, cleared(), Where::Known(6))];
+        let taken = (0..=255).filter(|&tag| {
+            let mut m = Memory::new(8);
+            m.tags[6] = tag;
+            let synced = m.sync(4, &clear, &pages(&clear));
+            assert_eq!(m.tags[6], if synced.is_ok() { TOMBSTONE } else { tag });
+            synced.is_ok()
+        });
+        assert_eq!(taken.collect::<Vec<u8>>(), [full_tag(hash)]);
+    }
+}
+
+#[test]
+fn a_logged_clear_is_replayed_whatever_the_tag() {
+    for edition in EDITIONS {
+        let (mut image, _) = moved(5);
+        let log = clears(start(edition, 7), &[3]);
+        assert_eq!(replay(&mut image, 8, &log, 7, &SEED, &[]), Ok(Replayed::Applied));
+        assert_eq!((image[3], image[4]), (TOMBSTONE, 0x80));
+    }
 }
