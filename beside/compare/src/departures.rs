@@ -74,6 +74,7 @@ departures! {
     SYNC_CLEAR_PAST: "sync" Each "sync: a clear past the padding panics (01: 9)";
     SYNC_OTHER_TAG: "sync" Each "sync: an update of a bucket with another tag is taken (01: 14)";
     SYNC_CLEAR_NOT_FULL: "sync" Each "sync: a clear of a bucket that is not full is done (01: 14)";
+    SYNC_CLEAR_OTHER: "sync" Each "sync: a clear of a bucket that is full with another tag is done (02: 14)";
     SYNC_CLEAR_NEW: "sync" Each "sync: a clear of a new page panics (01: 14)";
     SYNC_NOT_MOVED: "sync" Each "sync: refused with 10, the tags keep earlier changes and occupied isn't moved";
     SYNC_ENDLESS: "sync" Each "sync: a new page whose path has nothing to stop at never ends (01: 11)";

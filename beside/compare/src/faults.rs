@@ -65,7 +65,7 @@ const fn fault(side: Side, part: &'static str, call: &'static str, says: &'stati
 
 use Side::*;
 
-pub const FAULTS: [Fault; 65] = [
+pub const FAULTS: [Fault; 66] = [
     fault(Ours, "diff", "pack", "the count of packed nodes is one more", |c| {
         c.said::<Answer<Packed>>().iter_mut().for_each(|p| p.count += 1)
     }),
@@ -377,6 +377,23 @@ pub const FAULTS: [Fault; 65] = [
             *entry = Entry::Clear { bucket: 0 };
         }
     }),
+    fault(Alike, "sync", "sync_step", "a clear is taken where the tag is full, whosever it is", |c| {
+        let (n, bucket, occupied) = (c.facts[0], c.facts[1], c.facts[4]);
+        let full = c.lent(0).get(bucket as usize).is_some_and(|tag| *tag >= 0x80);
+        if !full || *c.said::<Answer<(Step, State)>>() != Err(Refused(14)) {
+            return;
+        }
+        let writer = Writer::Open(if c.facts[3] == 1 { Edition::One } else { Edition::Two }, c.facts[2]);
+        let written = model::writer::clear(c.lent(2), writer, bucket);
+        if written.is_ok() {
+            c.lent(0)[bucket as usize] = model::tags::TOMBSTONE;
+            c.lent(1)[bucket as usize / 4096] = 1;
+        }
+        *c.said::<Answer<(Step, State)>>() = written.map(|writer| {
+            let step = Step { bucket, page: n.div_ceil(4096) + bucket };
+            (step, State { writer, occupied: occupied.saturating_sub(1) })
+        });
+    }),
 ];
 
 /// What the default call wants after end, as a number.
@@ -458,6 +475,16 @@ fn stands(w: Writer) -> (u64, u64) {
         Writer::Open(Edition::One, at) => (at, 1),
         Writer::Open(Edition::Two, at) => (at, 2),
         _ => (0, 0),
+    }
+}
+
+/// The bucket that a clear names, the most for none.
+fn cleared(cells: &[u64], change: &Change) -> u64 {
+    match change.place {
+        _ if !change.diff.cleared() => u64::MAX,
+        Place::Known(b) => b,
+        Place::Fresh => u64::MAX,
+        Place::Cell(i) => cells.get(i as usize).copied().unwrap_or(u64::MAX),
     }
 }
 
@@ -551,7 +578,8 @@ impl<E: Engine> Engine for Bent<E> {
             -> Answer<Writer>, [bucket], [log];
         finish(log: &mut [u8], w: Writer) -> Answer<(u64, Writer)>, [], [log];
         sync_step(lent: &mut Lent, state: State, change: &Change, page: &[u8]) -> Answer<(Step, State)>,
-            [lent.n], [lent.tags, lent.marks, lent.log, page];
+            [lent.n, cleared(lent.cells, change), stands(state.writer).0, stands(state.writer).1, state.occupied],
+            [lent.tags, lent.marks, lent.log, page];
         replay(image: &mut [u8], n: u64, log: &[u8], sync: u32, seed: &Seed, hashes: &[u64], after: AfterEnd)
             -> Answer<Replayed>, [n, sync as u64, hashes.len() as u64, zeros(after)], [image, log, seed];
         replay_step(image: &mut [u8], n: u64, log: &[u8], edition: Edition, at: u64, hash: u64, after: AfterEnd)

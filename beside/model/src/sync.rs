@@ -7,7 +7,7 @@ use crate::{
     edition::Start,
     path::find,
     places::{page_number, tag_pages_of, tags_fit, ELIDED_AT, ID_AT},
-    tags::{full_count, full_tag, kind, page_index, Kind, TOMBSTONE},
+    tags::{full_count, full_tag, page_index, TOMBSTONE},
     unless,
     writer::{self, Writer},
     Answer, Refused, PAGE,
@@ -77,7 +77,8 @@ pub fn step(lent: &mut Lent, state: State, change: &Change, page: &[u8]) -> Answ
 
     if d.cleared() {
         let bucket = stands.ok_or(Refused(14))?;
-        unless(kind(tags[bucket as usize]) == Kind::Full, 14)?;
+        // 02, W-203: "The tag must be the full tag of the page's own hash."
+        unless(tags[bucket as usize] == full_tag(change.hash), 14)?;
         let writer = writer::clear(log, state.writer, bucket)?;
         tags[bucket as usize] = TOMBSTONE;
         marks[page_index(bucket) as usize] = 1;

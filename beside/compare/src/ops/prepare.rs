@@ -51,6 +51,8 @@ pub struct Theirs<'a> {
     buckets: Vec<Option<u64>>,
     /// The tag pages to write.
     pub marked: BTreeSet<u64>,
+    /// The tag that the last clear found.
+    pub found: u8,
 }
 
 fn panic(at: &str, said: String) -> Trouble {
@@ -83,6 +85,7 @@ impl<'a> Theirs<'a> {
             pages: vec![],
             buckets: vec![],
             marked: BTreeSet::new(),
+            found: 0,
         })
     }
 
@@ -123,7 +126,7 @@ impl<'a> Theirs<'a> {
         let cleared = d >> 127 == 1;
         let unfit = match stands {
             None => cleared,
-            Some(b) if cleared => tags[b as usize] < 0x80,
+            // Of clears too, by 02, W-203.
             Some(b) => tags[b as usize] != full_tag(c.hash),
         };
         if unfit {
@@ -159,7 +162,7 @@ impl<'a> Theirs<'a> {
             };
             let len = self.tags().len();
             match self.map.tags_mut().get_mut(b as usize) {
-                Some(tag) => *tag = TOMBSTONE,
+                Some(tag) => self.found = std::mem::replace(tag, TOMBSTONE),
                 None => return Err(Stop::Panic("bitbox/meta_map.rs:52", outside(len, b))),
             }
             self.moved -= 1;
@@ -277,8 +280,9 @@ pub fn asked(n: u64, tags: &[u8], number: u32, changes: &[Change], pages: &[u8],
     did_of(said, left)
 }
 
-/// The departure that a change is that 01 refuses with a number; none where the original gives up as 01 does.
-pub fn departure(number: u8, c: &Change, stop: Option<&Stop>, moved: i64) -> Option<Departure> {
+/// The departure that a change is that 01 refuses with a number; none where the original gives up as 01 does. `found` is
+/// the tag that it found if it clears.
+pub fn departure(number: u8, c: &Change, stop: Option<&Stop>, moved: i64, found: u8) -> Option<Departure> {
     Some(match (number, stop) {
         (10, Some(Stop::GivesUp | Stop::TooLong)) if moved == 0 => return None,
         (_, Some(Stop::NoCell)) => return None,
@@ -290,7 +294,8 @@ pub fn departure(number: u8, c: &Change, stop: Option<&Stop>, moved: i64) -> Opt
         (4, None) => known::SYNC_BIT_126,
         (9, None) if c.diff.cleared() => known::SYNC_CLEAR_PADDING,
         (9, None) => known::SYNC_ANY_BUCKET,
-        (14, None) if c.diff.cleared() => known::SYNC_CLEAR_NOT_FULL,
+        (14, None) if c.diff.cleared() && found < 0x80 => known::SYNC_CLEAR_NOT_FULL,
+        (14, None) if c.diff.cleared() => known::SYNC_CLEAR_OTHER,
         (14, None) => known::SYNC_OTHER_TAG,
         (_, None) => known::SYNC_GROWS,
     })

@@ -251,7 +251,7 @@ fn whole(input: &Input) -> Heard {
         Some(Stop::TooLong) => wanted.clone(),
         _ => asked(n, &tags, input.number, &changes[..=j], &pages, &input.cells),
     };
-    did.held_to(wanted, departure(number, &changes[j], stop.as_ref(), theirs.moved).or(twice), out)
+    did.held_to(wanted, departure(number, &changes[j], stop.as_ref(), theirs.moved, theirs.found).or(twice), out)
 }
 
 /// What 01 has to answer and leave, by the original's changes so far. In edition two its records are retold.
@@ -295,7 +295,8 @@ fn step(input: &Input, occupied: u64, edition: Edition, at: u64) -> Heard {
         _ => asked(n, &tags, input.number, change, &pages, &input.cells),
     };
     if let Some(number) = number {
-        return did.held_to(wanted, departure(number, &change[0], stop.as_ref(), 0), untouched(input, number));
+        let how = departure(number, &change[0], stop.as_ref(), 0, theirs.found);
+        return did.held_to(wanted, how, untouched(input, number));
     }
     // The count that is lent moves as the original's own does, and stays within its type.
     let occupied = match theirs.moved {
@@ -454,6 +455,19 @@ fn clears_outside(n: u64) -> Vec<Told> {
 }
 
 pub fn exhaustive(run: &mut Run) {
+    // Clears of each tag by hashes whose tags are near it, with room for the record and without.
+    for tag in 0..=255 {
+        for full in [tag as u64 + 127, tag as u64, tag as u64 + 1] {
+            for place in [Place::Known(0), Place::Cell(0)] {
+                let clear = Told { label: Label { hash: (full % 128) << 57, free: 0 }, diff: CLEARED, place };
+                let input = Input { cells: vec![0], ..Input::new(Table::new(1, &[tag]), &[clear]) };
+                run.case::<SyncOp>(input.clone());
+                for writer in [5, 16_374, 16_375].map(|at| Writer::Open(Edition::One, at)) {
+                    run.case::<SyncOp>(Input { step: Some(1), writer, ..input.clone() });
+                }
+            }
+        }
+    }
     // A byte anywhere in the padding.
     for n in [1, 2, 4095, 4097] {
         let last = 4095 - n % 4096;
