@@ -163,7 +163,7 @@ fn is_operation(op: u64) -> bool {
         32 => false,
         38 => false,
         39 => false,
-        _ => op < 49 || (op > 55 && op < 60),
+        _ => op < 51 || (op > 55 && op < 60),
     }
 }
 
@@ -318,6 +318,9 @@ fn answer(w: In, a: &mut [u8], b: &mut [u8], c: &mut [u64]) -> Words {
     }
     if op < 23 {
         return vector_memory::on_memory(w, a, b, c);
+    }
+    if op == 49 || op == 50 {
+        return vector_syncs::on_syncs(w, a, b, c);
     }
     if is_of_logs(op) {
         return vector_logs::on_logs(w, a, b, c);
