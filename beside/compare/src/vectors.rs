@@ -3,12 +3,22 @@
 //! error, and document 01 says too; the departures stand in docs/DIFFERENCES.md.
 
 use crate::{
-    input::{hash_at, Bytes, Label, Log, Record, Table, TAGS},
-    ops::{audit, diff, growth, path, places, read, replay, tags},
+    input::{hash_at, Bytes, Filler, Label, Log, Record, Table, TAGS},
+    ops::{audit, diff, growth, path, places, read, replay, sync, tags, write},
     rng::Rng,
     run::{agreed, Op, Out, Said},
 };
-use model::{after_end::AfterEnd, diff::Diff, edition::Edition, places::length_of, PAGE};
+use model::{
+    after_end::AfterEnd,
+    diff::Diff,
+    edition::{Edition, Start},
+    places::{length_of, ELIDED_AT, ID_AT},
+    sync::{Place, UNSET},
+    tags::{full_tag, TOMBSTONE},
+    writer::Writer,
+    PAGE,
+};
+use std::collections::BTreeSet;
 
 /// The seed of the list that is kept. Another one gives another list of the same kind.
 pub const SEED: u64 = 8;
@@ -467,6 +477,246 @@ fn replays(rng: &mut Rng) {
     }
 }
 
+/// What a call leaves by a name.
+fn left<'a>(out: &'a Out, name: &str) -> &'a [u8] {
+    out.bytes.iter().find(|(said, _)| *said == name).map_or(&[], |(_, bytes)| bytes)
+}
+
+/// Prints lines that put a page into the first memory: other bytes first, then what a record takes of it, and its id.
+fn leaf(at: u64, page: &[u8], diff: Diff, id: [u8; 32]) {
+    println!("{} # page", numbers(18, &[TABLE, at, PAGE as u64, 77, PAGE as u64]));
+    let slots = diff.slots().into_iter().filter(|&slot| slot < 126);
+    let mut taken: Vec<(usize, u64)> =
+        slots.flat_map(|s| (32 * s..32 * s + 32).step_by(8)).map(|i| (i, word(page, i))).collect();
+    taken.push((ELIDED_AT, word(page, ELIDED_AT)));
+    taken.extend((0..32).step_by(8).map(|i| (ID_AT + i, word(&id, i))));
+    // A line for each run of one word.
+    let mut from = 0;
+    while from < taken.len() {
+        let (place, first) = taken[from];
+        let run = taken[from..].iter().enumerate().take_while(|(i, t)| **t == (place + 8 * i, first)).count();
+        println!("{} # page", numbers(17, &[TABLE, at + place as u64, run as u64, 8, first, 0]));
+        from += run;
+    }
+}
+
+/// Records of the writer in a slice that is filled with another byte, call by call.
+fn writers(rng: &mut Rng) {
+    use write::{Call, Input, WriteOp};
+    const OTHER: u8 = 0xAA;
+    let update = |diff: u128, with: u64, rng: &mut Rng| Call::Update {
+        label: Label { hash: rng.next(), free: rng.below(9) },
+        diff: Diff(diff),
+        count: None,
+        with,
+        bucket: rng.number(),
+    };
+    let begin = |rng: &mut Rng| Call::Begin(Start::one(rng.number() as u32));
+    // Full to its last byte: 5 + 4,097 + 3,873 + 24 times 9 and the byte of end are two pages.
+    let mut full = vec![begin(rng), update((1 << 126) - 1, 0, rng), update((1 << 119) - 1, 0, rng)];
+    full.extend((0..24).map(Call::Clear));
+    full.push(Call::Finish);
+    let mut runs = vec![
+        (8192, full),
+        (4096, vec![begin(rng), Call::Finish]),
+        (
+            4097,
+            vec![begin(rng), begin(rng), Call::Clear(u64::MAX), Call::Finish, begin(rng), Call::Clear(0), Call::Finish],
+        ),
+    ];
+    for _ in 0..9 {
+        let mut calls = vec![begin(rng)];
+        for _ in 0..rng.within(1, 4) {
+            calls.push(match rng.below(3) {
+                0 => Call::Clear(rng.number()),
+                1 => update(1 << rng.below(126), rng.next(), rng),
+                _ => update(1 << rng.below(126) | 1 << rng.below(126) | 1 << rng.below(126), rng.next(), rng),
+            });
+        }
+        calls.push(Call::Finish);
+        runs.push((rng.pick(&[4096, 8191, 8192, 12_288]), calls));
+    }
+    for (len, calls) in runs {
+        let lent = len as u64;
+        println!("{} # log", numbers(16, &[LOG, 0, lent, 1, OTHER as u64, 0]));
+        let mut log = vec![OTHER; len];
+        let mut state = vec![0, 0];
+        for i in 0..calls.len() {
+            let input = Input { slice: Filler { len, with: 0 }, calls: calls[..=i].to_vec() };
+            let Some((number, out)) = heard::<WriteOp>(input) else { break };
+            let after = [word(left(&out, "state"), 0), word(left(&out, "state"), 8)];
+            log[..after[1] as usize].copy_from_slice(&left(&out, "slice")[..after[1] as usize]);
+            let answer: &[&[u64]] = &[&[number], &after];
+            match &calls[i] {
+                Call::Begin(start) => line("writer begin", 44, &[&state, &[lent, start.sync as u64]], answer),
+                Call::Clear(bucket) => line("writer clear", 45, &[&state, &[lent, *bucket]], answer),
+                Call::Update { label, diff, with, bucket, .. } => {
+                    let mut page = [0; PAGE];
+                    for (slot, node) in diff.slots().into_iter().zip(write::nodes_of(*with)) {
+                        page[32 * slot..][..32].copy_from_slice(&node);
+                    }
+                    page[ELIDED_AT..][..8].copy_from_slice(&write::elided_of(*with));
+                    leaf(0, &page, *diff, label.id());
+                    let given: [&[u64]; 3] = [&state, &[lent, *bucket], &split(*diff)];
+                    // By value the last entry of the table is none of the page's.
+                    match (i % 2, diff.count()) {
+                        (1, ..126) => line("writer update", 47, &[&given.concat(), &[diff.count()]], answer),
+                        _ => line("writer update", 46, &given, answer),
+                    }
+                }
+                Call::Finish => line("writer finish", 48, &[&state, &[lent]], answer),
+                Call::Lend(_) | Call::Forge(_) => unreachable!("none is made"),
+            }
+            state = after.to_vec();
+        }
+        sum("log after", LOG, &log);
+    }
+}
+
+/// Changes that a table takes one after another, with the page's own hash where it stands already; whole pages if
+/// so. No bucket is updated twice: with debug assertions the original does not take that.
+fn fitting(table: &Table, cells: &[u64], count: u64, whole: bool, rng: &mut Rng) -> Vec<sync::Told> {
+    let n = table.n;
+    let (mut tags, mut cells) = (table.tag_bytes(), cells.to_vec());
+    let mut updated = BTreeSet::new();
+    let mut changes = vec![];
+    for _ in 0..count {
+        let full: Vec<u64> = (0..n).filter(|&b| tags[b as usize] >= 0x80).collect();
+        let place = match rng.below(4) {
+            0 | 1 if !full.is_empty() => Place::Known(rng.pick(&full)),
+            2 if !cells.is_empty() => Place::Cell(rng.below(cells.len() as u64)),
+            _ => Place::Fresh,
+        };
+        let stands = match place {
+            Place::Known(b) => Some(b),
+            Place::Cell(i) => Some(cells[i as usize]).filter(|&b| b != UNSET),
+            Place::Fresh => None,
+        };
+        let home = [n - 1, rng.below(n)][rng.below(2) as usize];
+        let some = [rng.next(), hash_at(rng.below(2), home, n)];
+        let hash = match stands.map(|b| tags[b as usize]) {
+            Some(tag @ 0x80..) => hash_at(tag as u64 - 128, home, n),
+            Some(_) => continue,
+            None => rng.pick(&some),
+        };
+        let clears = stands.is_some() && rng.once_in(3);
+        let marks = [0, 1 << rng.below(126), 1 << rng.below(126) | 1 << rng.below(126)];
+        let marks = if whole { (1 << 126) - 1 } else { rng.pick(&marks) };
+        let diff = Diff(marks | (clears as u128) << 127);
+        let bucket = stands.map_or_else(|| model::path::find(&tags, n, hash), Ok);
+        if let Ok(b) = bucket {
+            if !clears && !updated.insert(b) {
+                continue;
+            }
+            tags[b as usize] = if clears { TOMBSTONE } else { full_tag(hash) };
+            if let Place::Cell(i) = place {
+                cells[i as usize] = b;
+            }
+        }
+        changes.push(sync::Told { label: Label { hash, free: rng.below(3) }, diff, place });
+    }
+    changes
+}
+
+/// How many changes a line has room for, and where behind the tags what is told of them stands: first their pages.
+const CHANGES: usize = 8;
+const TOLD: usize = CHANGES * PAGE;
+
+/// Prints lines that put tags, cells and changes into their memories, and zeros where the log will stand.
+fn stage(input: &sync::Input) {
+    let tags = input.table.tag_bytes();
+    load("tags", TABLE, &tags);
+    for (j, (c, page)) in input.changes.iter().zip(input.exact_pages().chunks(PAGE)).enumerate() {
+        let (kind, at) = match c.place {
+            Place::Known(b) => (0, b),
+            Place::Fresh => (1, 0),
+            Place::Cell(i) => (2, i),
+        };
+        if !c.diff.cleared() {
+            leaf((tags.len() + PAGE * j) as u64, page, c.diff, c.label.id());
+        }
+        let [lo, hi] = split(c.diff);
+        put("change", TABLE, (tags.len() + TOLD + 40 * j) as u64, &[c.label.hash, lo, hi, kind, at]);
+    }
+    for (i, &cell) in input.cells.iter().enumerate() {
+        println!("{} # cell", numbers(17, &[HASHES, i as u64, 1, 8, cell, 0]));
+    }
+    println!("{} # log", numbers(16, &[LOG, 0, input.log.len as u64, 1, 0, 0]));
+}
+
+/// Prints lines with what a sync left: its tags, cells and log.
+fn staged(out: &Out) {
+    sum("tags after", TABLE, left(out, "tags"));
+    for (i, cell) in left(out, "cells").chunks(8).enumerate() {
+        line("cell after", 22, &[&[HASHES, i as u64]], &[&[word(cell, 0)]]);
+    }
+    sum("log after", LOG, left(out, "log"));
+}
+
+fn syncs(rng: &mut Rng) {
+    use sync::{Input, SyncOp};
+    for round in 0..60 {
+        let n = if round % 10 == 9 { 4097 } else { 1 + round % 7 };
+        let tags: Vec<u8> = match round % 4 {
+            0 => vec![],
+            1 => (0..n.min(9)).map(|_| rng.pick(&[0x80, 0x81])).collect(),
+            _ => (0..n.min(9)).map(|_| rng.pick(&[0x00, 0x7F, 0x80, 0x81, 0xFF])).collect(),
+        };
+        let table = Table::new(n, &tags);
+        let full: Vec<u64> = (0..n).filter(|&b| table.tag_bytes()[b as usize] >= 0x80).collect();
+        let cells: Vec<u64> = (0..rng.below(3))
+            .map(|_| if full.is_empty() || rng.once_in(2) { UNSET } else { rng.pick(&full) })
+            .collect();
+        let step = round >= 44;
+        let count = match round {
+            0 | 1 => 0,
+            _ if step => 1,
+            _ => rng.within(1, 6),
+        };
+        // Whole pages are zeros.
+        let whole = !step && round % 7 == 4;
+        let changes = fitting(&table, &cells, count, whole, rng);
+        let mut input = Input { cells, ..Input::new(table, &changes) };
+        input.log.len = PAGE * if whole { 6 } else { rng.within(1, 2) as usize };
+        input.number = rng.number() as u32;
+        input.pages = if whole { 0 } else { rng.next() >> 8 };
+        if step {
+            input.writer = Writer::Open(Edition::One, rng.within(5, 900));
+            input.step = Some(rng.below(n + 1));
+        }
+        if step && changes.is_empty() {
+            continue;
+        }
+        let Some((number, out)) = heard::<SyncOp>(input.clone()) else { continue };
+        stage(&input);
+        let given = [n, input.table.tag_bytes().len() as u64, input.log.len as u64, input.cells.len() as u64];
+        let state = |of: &[u8]| [word(of, 0), word(of, 8)];
+        let after = state(left(&out, "writer"));
+        match (input.step, input.writer) {
+            (Some(occupied), Writer::Open(_, at)) => {
+                let said = match values(&out)[..] {
+                    [bucket, page, occupied] => [number, bucket, page, after[0], after[1], occupied],
+                    _ => [number, 0, 0, after[0], after[1], occupied],
+                };
+                line("sync step", 50, &[&given, &[1, at, occupied]], &[&said]);
+            }
+            _ => {
+                // Of eight marks the first are lent.
+                let mut marks = [0xAA; 8];
+                marks[..left(&out, "marks").len()].copy_from_slice(left(&out, "marks"));
+                let said = match (&out.said, &values(&out)[..]) {
+                    (_, [occupied, length]) => [0, *occupied, *length],
+                    (Said::RefusedAt(j, _), _) => [2, number, *j],
+                    _ => [1, number, 0],
+                };
+                let of = [changes.len() as u64, input.number as u64];
+                line("sync", 49, &[&given, &of], &[&said, &[word(&marks, 0)], &after]);
+            }
+        }
+        staged(&out);
+    }
+}
+
 pub fn print() {
     let mut rng = Rng(SEED);
     diffs(&mut rng);
@@ -478,4 +728,6 @@ pub fn print() {
     pages(&mut rng);
     tables(&mut rng);
     replays(&mut rng);
+    writers(&mut rng);
+    syncs(&mut rng);
 }

@@ -112,7 +112,7 @@ impl Input {
     }
 
     /// A page for each change.
-    fn exact_pages(&self) -> Vec<u8> {
+    pub fn exact_pages(&self) -> Vec<u8> {
         let mut pages = vec![0; PAGE * self.changes.len()];
         for (j, page) in pages.chunks_mut(PAGE).enumerate() {
             fill(page, if self.pages == 0 { 0 } else { self.pages + j as u64 });

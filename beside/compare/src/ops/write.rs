@@ -54,13 +54,13 @@ fn edition_of(calls: &[Call]) -> Edition {
     calls.iter().rev().find_map(told).unwrap_or(Edition::One)
 }
 
-fn nodes_of(with: u64) -> [[u8; NODE]; SLOTS] {
+pub fn nodes_of(with: u64) -> [[u8; NODE]; SLOTS] {
     let mut nodes = [[0; NODE]; SLOTS];
     crate::input::fill(nodes.as_flattened_mut(), with);
     nodes
 }
 
-fn elided_of(with: u64) -> [u8; 8] {
+pub fn elided_of(with: u64) -> [u8; 8] {
     with.wrapping_mul(0x9E37_79B9_7F4A_7C15).to_le_bytes()
 }
 
