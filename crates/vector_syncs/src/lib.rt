@@ -60,7 +60,10 @@ fn change(told: &[u8], j: usize) -> Change
     requires { ⌜ j < 8 ⌝ }
 {
     let at = 32768 + 40 * j;
-    let words = [blocks::read_u64(told, at + 8), blocks::read_u64(told, at + 16)];
+    let words = [
+        blocks::read_u64(told, at + 8),
+        blocks::read_u64(told, at + 16),
+    ];
     let diff = Diff { words };
     let place = Place {
         kind: blocks::read_u64(told, at + 24),
@@ -114,7 +117,14 @@ fn synced_by(
 ) -> SyncAnswer
     requires { ⌜ count ≤ 8 ⌝ }
 {
-    let begun = sync::begin_sync(&tags[..], marks, log, part(told, 4096 * count), count, start);
+    let begun = sync::begin_sync(
+        &tags[..],
+        marks,
+        log,
+        part(told, 4096 * count),
+        count,
+        start,
+    );
     let came = changed(tags, marks, cells, log, told, count, begun);
     sync::end_sync(log, came)
 }
