@@ -498,7 +498,7 @@ impl Log {
                     labels.chain(diffs).chain(buckets).chain(withs).collect()
                 }
                 Record::Byte(b) => smaller_number(b as u64).into_iter().map(|b| Record::Byte(b as u8)).collect(),
-                Record::End => vec![],
+                Record::End => vec![Record::Byte(1)],
             };
             for r in less {
                 let mut l = self.clone();

@@ -427,7 +427,7 @@ impl Run {
             println!("{name:<22}{:>10}{:>10}  {}", t.cases, t.accepted, refused.join(", "));
         }
         match &self.untried()[..] {
-            [] => println!("each refusal that 01 gives these operations was met, and each known departure"),
+            [] => println!("each refusal that 01 and 02 give these operations was met, and each known departure"),
             untried => println!("NOT MET: {}", untried.join(", ")),
         }
         for (name, t) in self.tallies.iter().filter(|(_, t)| !t.notes.is_empty()) {
