@@ -208,7 +208,7 @@ fn on_writer(w: In, log: &mut [u8], page: &[u8]) -> Words {
 
 // ---- 58 and 59: replay, and its stops
 
-// The logs of the list are of edition one, which names no store: any seed will do.
+// A log of edition one names no store; those of edition two in the list are of the store whose seed is zeros.
 fn wanted(sync: u32) -> Expected {
     let seed = [0u8; 16];
     Expected { sync, seed }
