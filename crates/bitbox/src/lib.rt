@@ -829,8 +829,8 @@ pub extern "C" fn bitbox_reader_next(log: &[u8], at: usize, edition: u32) -> Ent
     of_entry(wal_read::entry_at(log, at, ed))
 }
 
-// The same, whatever follows end: 6, 8, 4. The end is told here, and every other entry is that of `bitbox_reader_next`: so
-// that one, which has no other caller of its parts, is compiled as one function and moves the table of nodes once.
+// The same, whatever follows end: 6, 8, 4. The end is told here, and every other entry is that of `bitbox_reader_next`,
+// whose parts have no other caller: in this shape the table of nodes is moved least often.
 #[no_mangle]
 pub extern "C" fn bitbox_reader_next_tolerant(log: &[u8], at: usize, edition: u32) -> Entry
     ensures { λ r. ⌜ Read (nextBy Tolerant (editionOf edition) (now (log .entry)) at) at r ⌝ }

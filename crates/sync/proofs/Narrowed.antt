@@ -35,23 +35,6 @@ use Rattle.sync.proofs.TagKinds.{cleared-own}
 
 -- ---- what it gives: of one call of `step`, by its promise
 module _ (st : SyncState) (m : Mem) (page : List ℕ) (c : Change) (r : StepAnswer) (after : Mem) (p : StepPromise st m page c r after) where
-  module _ (b : ℕ) (done : effectOf st m page c ≡ given (cleared b)) where
-    -- "the tag must be the full tag of the page's own hash": the bucket had it, and is a tombstone now
-    pub clear-hits-its-own : (getD (m .tags) b 0 ≡ fullTag (c .hash)) × (getD (after .tags) b 0 ≡ 0x7F)
-    clear-hits-its-own =
-        let a = accepted-change st m page c (cleared b) done in
-        let inside : b < st .n = does-clears (st .n) (m .tags) (m .cells) c b (after-cleared st m c (doesOf (st .n) (m .tags) (m .cells) c) b (a .2) .0) in
-        let long = tags-fit-facts (st .n) (length (m .tags)) (a .0) in (
-          cleared-own st m page c b done,
-          ap (λ (x : Mem). getD (x .tags) b 0) (p .memory ∙ ap (λ (e : Answer Effect). memBy e st m page c) done) ∙ getD-set-same (m .tags) b 0x7F 0 (omega (arith, long, inside)),
-        )
-
-    -- an image with these tags: a lookup answers another bucket or none, whichever page is sought
-    pub cleared-not-found : (img : List ℕ) → getD img b 0 ≡ getD (after .tags) b 0 → (h : ℕ) (id : List ℕ) → lookupAnswer img (st .n) h id ≡ given (foundAt b) → ⊥
-    cleared-not-found img same h id found =
-        let tag : getD img b 0 ≡ fullTag h = found-right img (st .n) h id b found .1 .page .0 in
-        omega (arith, tag, same, clear-hits-its-own .1)
-
   -- a clearing change that is taken has cleared the bucket that it answers
   pub taken-clears : marked (c .diff .words) 127 ≡ true → (b q : ℕ) → r .taken ≡ taken.At b q → effectOf st m page c ≡ given (cleared b)
   taken-clears clearing b q e = go (effectOf st m page c) refl (sym (p .taken) ∙ ap takenSaid e)
@@ -72,6 +55,27 @@ module _ (st : SyncState) (m : Mem) (page : List ℕ) (c : Change) (r : StepAnsw
           absurd (no-update x (plan (updates x) (after-updated st m c (doesOf (st .n) (m .tags) (m .cells) c) x (accepted-change st m page c (updated x) h .2) .0)))
       go (given (allocated x)) h f =
           absurd (no-new (plan allocates (after-allocated st m c (doesOf (st .n) (m .tags) (m .cells) c) x (accepted-change st m page c (allocated x) h .2) .0)))
+
+  -- of a clearing change, by what the call answers: it took bucket b
+  module _ (clearing : marked (c .diff .words) 127 ≡ true) (b q : ℕ) (answered : r .taken ≡ taken.At b q) where
+    done : effectOf st m page c ≡ given (cleared b)
+    done = taken-clears clearing b q answered
+
+    -- "the tag must be the full tag of the page's own hash": the bucket had it, and is a tombstone now
+    pub clear-hits-its-own : (getD (m .tags) b 0 ≡ fullTag (c .hash)) × (getD (after .tags) b 0 ≡ 0x7F)
+    clear-hits-its-own =
+        let a = accepted-change st m page c (cleared b) done in
+        let inside : b < st .n = does-clears (st .n) (m .tags) (m .cells) c b (after-cleared st m c (doesOf (st .n) (m .tags) (m .cells) c) b (a .2) .0) in
+        let long = tags-fit-facts (st .n) (length (m .tags)) (a .0) in (
+          cleared-own st m page c b done,
+          ap (λ (x : Mem). getD (x .tags) b 0) (p .memory ∙ ap (λ (e : Answer Effect). memBy e st m page c) done) ∙ getD-set-same (m .tags) b 0x7F 0 (omega (arith, long, inside)),
+        )
+
+    -- an image with these tags: a lookup answers another bucket or none, whichever page is sought
+    pub cleared-not-found : (img : List ℕ) → getD img b 0 ≡ getD (after .tags) b 0 → (h : ℕ) (id : List ℕ) → lookupAnswer img (st .n) h id ≡ given (foundAt b) → ⊥
+    cleared-not-found img same h id found =
+        let tag : getD img b 0 ≡ fullTag h = found-right img (st .n) h id b found .1 .page .0 in
+        omega (arith, tag, same, clear-hits-its-own .1)
 
 -- who looks the id up first is not refused for its tag
 pub found-fits : (img tags : List ℕ) (n h : ℕ) (id : List ℕ) (b : ℕ) → lookupAnswer img n h id ≡ given (foundAt b) → getD tags b 0 ≡ getD img b 0 → tagFits h (getD tags b 0) ≡ true
