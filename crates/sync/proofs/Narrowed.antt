@@ -21,6 +21,7 @@ use Rattle.page_diff.specs.Diff.{marked}
 use Rattle.probe.specs.Path.{foundAt, lookupAnswer}
 use Rattle.probe.proofs.Promises.{found-right}
 use Rattle.wal.specs.Writer.{ifOpen}
+use Rattle.wal.specs.declared.Edition.{Edition}
 use Rattle.wal.specs.declared.Writer.{Writer}
 use Rattle.wal.specs.declared.Writer.the-variants.{Fresh, Open, Finished}
 use Rattle.sync_parts.specs.Parts.{Named, bucket, none, namedBy, tagFits}
@@ -189,3 +190,16 @@ pub as-before : (st : SyncState) (m : Mem) (page : List ℕ) (c : Change) (e : E
 as-before st m page c e ok =
     let same : effectOf st m page c ≡ formerEffect st m page c = ⊎-elim (λ s. s) (λ o. absurd (given-refused e 14 (sym ok ∙ o .1))) (effect-narrowed st m page c) in
     (sym same ∙ ok, ap (λ (a : Answer Effect). stateBy a st c) same, ap (λ (a : Answer Effect). memBy a st m page c) same)
+
+-- such a clear, of the call `step`: where nothing else is wrong it answers 14, and all that is lent stays
+pub other-refused : (st : SyncState) (m : Mem) (page : List ℕ) (c : Change) (r : StepAnswer) (after : Mem) → StepPromise st m page c r after
+    → OtherTag (st .n) (m .tags) (m .cells) c → marked (c .diff .words) 126 ≡ false → tagsFit (st .n) (length (m .tags)) ≡ true
+    → (eqb (length page) 4096 && eqb (length (m .marks)) (tagPages (st .n))) ≡ true → (k : ℕ) (ed : Edition) → st .writer ≡ Open k ed
+    → (takenSaid (r .taken) ≡ refused 14) × (after ≡ m)
+unfolding effectOf
+other-refused st m page c r after p o spare fits lent k ed is-open =
+    let d : Answer Does = doesOf (st .n) (m .tags) (m .cells) c in
+    let answer : effectOf st m page c ≡ refused 14 =
+    ap₂ (λ (t u : Bool). cond t (cond u (ifOpen (st .writer) (afterDoes st m c d)) (refused 2)) (refused 1)) fits lent
+    ∙ ap (λ (w : Writer). ifOpen w (afterDoes st m c d)) is-open ∙ ap (afterDoes st m c) (other-does (st .n) (m .tags) (m .cells) c spare o) in
+    (p .taken ∙ ap (pageNumber st) answer, p .memory ∙ ap (λ (a : Answer Effect). memBy a st m page c) answer)
