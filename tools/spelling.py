@@ -14,7 +14,8 @@ import re
 import sys
 
 DEFINED = re.compile(r"^(?:pub |abbrev |unfoldable |mutual )*([A-Za-z_][^\s(){}:,;.]*)(?: [A-Za-z_][^\s(){}:,;.]*)* :(?: |$)")
-TOKEN = re.compile(r"[A-Za-z_][A-Za-z0-9_'₀-₉]*(?:-[A-Za-z0-9_'₀-₉]+)*")
+TOKEN = re.compile(r"(?<![A-Za-z0-9_'])[A-Za-z_][A-Za-z0-9_'₀-₉]*(?:-[A-Za-z0-9_'₀-₉]+)*")
+CODE = re.compile(r"(?<![A-Za-z0-9_'])[A-Za-z_][A-Za-z0-9_₀-₉]*(?:-[A-Za-z0-9_₀-₉]+)*(?!')")
 # the library's names that stand as a part of ours
 LIBRARY = set("length drop take append mod pow suc le get_or snoc replicate shr or and ones set".split())
 # what falls together with another name once it is in snake case
@@ -77,7 +78,7 @@ def main():
             return re.sub(r"`[^`]*`", lambda m: TOKEN.sub(lambda t: renamed(t.group()), m.group()), line)
         if kind == ".rt" or kind == ".edit":
             code, quote, rest = line.partition('"')
-            return TOKEN.sub(lambda t: renamed(t.group()) if "-" not in t.group() or t.group() in named else t.group(), code) + quote + rest
+            return CODE.sub(lambda t: renamed(t.group()) if "-" not in t.group() or t.group() in named else t.group(), code) + quote + rest
         code, mark, rest = line.partition("-- ") if line.startswith("-- ") else (line, "", "")
         rest = TOKEN.sub(lambda t: renamed(t.group()) if "-" not in t.group() else t.group(), rest)
         return TOKEN.sub(lambda t: renamed(t.group()), code) + mark + rest

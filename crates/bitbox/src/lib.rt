@@ -695,7 +695,7 @@ pub extern "C" fn bitbox_set_full(tags: &mut [u8], n: usize, bucket: u64, hash: 
 // Writes the tag of a bucket whose page is cleared: 1, 9.
 #[unsafe(no_mangle)]
 pub extern "C" fn bitbox_set_tombstone(tags: &mut [u8], n: usize, bucket: u64) -> Answer
-    ensures { (result ≡ outcome_words (write_answer tags.old n bucket)) × (tags.new ≡ tag_written tags.old n bucket 0x7_f) }
+    ensures { (result ≡ outcome_words (write_answer tags.old n bucket)) × (tags.new ≡ tag_written tags.old n bucket 0x7F) }
 {
     of_outcome(meta_map::set_tombstone(tags, n, bucket))
 }
@@ -776,7 +776,7 @@ pub extern "C" fn bitbox_allocate(tags: &mut [u8], n: usize, hash: u64) -> Answe
 
 // ---- the log
 
-// The edition that a log's first byte tells: 2 for 0x_b2, else 1.
+// The edition that a log's first byte tells: 2 for 0xB2, else 1.
 #[unsafe(no_mangle)]
 pub extern "C" fn bitbox_reader_edition(log: &[u8]) -> u32
     ensures { result ≡ edition_number (edition_at log.now) }

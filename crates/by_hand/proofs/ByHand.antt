@@ -53,7 +53,7 @@ started = begun (record { writer = Fresh; log = replicate 4096 0 }) (edition_one
 abbrev clears : List ℕ → List ℕ
 clears buckets = one (all_taken started buckets) ∷ say (λ u. []) (next_clear (all_cleared started buckets))
 
--- "n=1, tag 0, log with sync 7 and clear 0: 0x7_f under 7, stale under 8": the answer and the tag afterwards
+-- "n=1, tag 0, log with sync 7 and clear 0: 0x7F under 7, stale under 8": the answer and the tag afterwards
 abbrev did : Did → ℕ
 did nothing = 0
 did stale = 1
@@ -74,7 +74,7 @@ examples cleared replayed =
     ∷ map (λ h. full_tag h ∷ []) (0 ∷ (2 ^ 57 - 1) ∷ (2 ^ 57) ∷ (2 ^ 64 - 1) ∷ [])
     ∷ map (visited 8 8) (0 ∷ 1 ∷ 2 ∷ 3 ∷ 4 ∷ 5 ∷ 6 ∷ 7 ∷ [])
     ∷ map (visited 5 5) (0 ∷ 1 ∷ 2 ∷ 3 ∷ 4 ∷ [])
-    ∷ (allocated 0x81 0x81 0x00 ∷ allocated 0x80 0x81 0x00 ∷ allocated 0x81 0x7_f 0x00 ∷ [])
+    ∷ (allocated 0x81 0x81 0x00 ∷ allocated 0x80 0x81 0x00 ∷ allocated 0x81 0x7F 0x00 ∷ [])
     ∷ (marked_by 4 8 ∷ marked_by 8 8 ∷ [])
     ∷ (cleared ∷ [])
     ∷ replayed
@@ -82,13 +82,13 @@ examples cleared replayed =
 
 pub by_hand : examples (clears (replicate 454 3)) (map told (map (cleared_under (replicate 8192 0)) (7 ∷ 8 ∷ [])))
     ≡ ((0 ∷ 125 ∷ 1 ∷ []) ∷ (4 ∷ []) ∷ (4 ∷ []) ∷ [])
-    ∷ ((0x80 ∷ []) ∷ (0x80 ∷ []) ∷ (0x81 ∷ []) ∷ (0x_fF ∷ []) ∷ [])
+    ∷ ((0x80 ∷ []) ∷ (0x80 ∷ []) ∷ (0x81 ∷ []) ∷ (0xFF ∷ []) ∷ [])
     ∷ ((0 ∷ 0 ∷ []) ∷ (0 ∷ 1 ∷ []) ∷ (0 ∷ 3 ∷ []) ∷ (0 ∷ 6 ∷ []) ∷ (0 ∷ 2 ∷ []) ∷ (0 ∷ 7 ∷ []) ∷ (0 ∷ 5 ∷ []) ∷ (0 ∷ 4 ∷ []) ∷ [])
     ∷ ((0 ∷ 0 ∷ []) ∷ (0 ∷ 1 ∷ []) ∷ (0 ∷ 3 ∷ []) ∷ (0 ∷ 1 ∷ []) ∷ (0 ∷ 0 ∷ []) ∷ [])
     ∷ ((11 ∷ []) ∷ (10 ∷ []) ∷ (0 ∷ 1 ∷ []) ∷ [])
-    ∷ ((0 ∷ 0x4_e ∷ 0x4_f ∷ 0x4_d ∷ 0x54 ∷ 0x52 ∷ 0x48 ∷ 0x31 ∷ 0x00 ∷ 0x04 ∷ 0x00 ∷ 0x00 ∷ 0x00 ∷ 0x08 ∷ 0x00 ∷ 0x00 ∷ 0x00 ∷ []) ∷ (17 ∷ []) ∷ [])
+    ∷ ((0 ∷ 0x4E ∷ 0x4F ∷ 0x4D ∷ 0x54 ∷ 0x52 ∷ 0x48 ∷ 0x31 ∷ 0x00 ∷ 0x04 ∷ 0x00 ∷ 0x00 ∷ 0x00 ∷ 0x08 ∷ 0x00 ∷ 0x00 ∷ 0x00 ∷ []) ∷ (17 ∷ []) ∷ [])
     ∷ ((1 ∷ 13 ∷ []) ∷ [])
-    ∷ ((0 ∷ 2 ∷ 0x7_f ∷ []) ∷ (0 ∷ 1 ∷ 0x00 ∷ []) ∷ [])
+    ∷ ((0 ∷ 2 ∷ 0x7F ∷ []) ∷ (0 ∷ 1 ∷ 0x00 ∷ []) ∷ [])
     ∷ []
 unfolding slots_below marked probing allocating
 by_hand = ap₂ examples clears_told (ap (map told) replays)

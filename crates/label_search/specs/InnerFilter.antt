@@ -18,8 +18,8 @@ folded x = bit_xor x (x / 4294967296)
 unfoldable pub mixed : ℕ → ℕ → ℕ → ℕ → ℕ
 unfolding spread folded
 mixed w0 w1 w2 w3 =
-    folded (spread (folded (bit_xor (bit_xor (spread w0 0x9_e3779_b1 0x85_eBCA77) (spread w1 0x_cC9_e2_d51 0x1_b873593)) (bit_xor (spread w2 0x_e6546_b65 0x7_fEB352_d) (spread w3 0x846_cA68_b 0x_d35_a2_d97))))
-    0x_c2_b2_aE3_d 0x27_d4_eB2_f)
+    folded (spread (folded (bit_xor (bit_xor (spread w0 0x9E3779B1 0x85EBCA77) (spread w1 0xCC9E2D51 0x1B873593)) (bit_xor (spread w2 0xE6546B65 0x7FEB352D) (spread w3 0x846CA68B 0xD35A2D97))))
+    0xC2B2AE3D 0x27D4EB2F)
 
 unfoldable pub key_of : List ℕ → ℕ
 unfolding mixed block

@@ -70,9 +70,9 @@ fn fold_word(x: u64) -> u64
 fn mix_words(w0: u64, w1: u64, w2: u64, w3: u64) -> u64
     ensures { result ≡ mixed w0 w1 w2 w3 }
 {
-    let low = spread_word(w0, 0x9_e3779_b1, 0x85_eBCA77) ^ spread_word(w1, 0x_cC9_e2_d51, 0x1_b873593);
-    let high = spread_word(w2, 0x_e6546_b65, 0x7_fEB352_d) ^ spread_word(w3, 0x846_cA68_b, 0x_d35_a2_d97);
-    fold_word(spread_word(fold_word(low ^ high), 0x_c2_b2_aE3_d, 0x27_d4_eB2_f))
+    let low = spread_word(w0, 0x9E3779B1, 0x85EBCA77) ^ spread_word(w1, 0xCC9E2D51, 0x1B873593);
+    let high = spread_word(w2, 0xE6546B65, 0x7FEB352D) ^ spread_word(w3, 0x846CA68B, 0xD35A2D97);
+    fold_word(spread_word(fold_word(low ^ high), 0xC2B2AE3D, 0x27D4EB2F))
 }
 
 // The key of bucket b's label.

@@ -18,7 +18,7 @@ use Rattle.meta_map.specs.Tags.{Kind, empty, tombstone, full, other, kind_of, is
 
 -- a kind is told by one test
 pub kind_empty : (t : ℕ) → is_kind empty (kind_of t) ≡ eqb t 0x00
-kind_empty t = go (eqb t 0x00) (eqb t 0x7_f) (leb 128 t)
+kind_empty t = go (eqb t 0x00) (eqb t 0x7F) (leb 128 t)
   where
     go : (a b c : Bool) → is_kind empty (cond a empty (cond b tombstone (cond c full other))) ≡ a
     go true b c = refl
@@ -26,8 +26,8 @@ kind_empty t = go (eqb t 0x00) (eqb t 0x7_f) (leb 128 t)
     go false false true = refl
     go false false false = refl
 
-pub kind_tombstone : (t : ℕ) → is_kind tombstone (kind_of t) ≡ eqb t 0x7_f
-kind_tombstone t = go (eqb t 0x00) (eqb t 0x7_f) (leb 128 t) (λ e. ne_eqb t 0x7_f (λ q. absurd (omega (arith, eqb-true t 0x00 e))))
+pub kind_tombstone : (t : ℕ) → is_kind tombstone (kind_of t) ≡ eqb t 0x7F
+kind_tombstone t = go (eqb t 0x00) (eqb t 0x7F) (leb 128 t) (λ e. ne_eqb t 0x7F (λ q. absurd (omega (arith, eqb-true t 0x00 e))))
   where
     go : (a b c : Bool) → (a ≡ true → b ≡ false) → is_kind tombstone (cond a empty (cond b tombstone (cond c full other))) ≡ b
     go true b c h = sym (h refl)
@@ -37,8 +37,8 @@ kind_tombstone t = go (eqb t 0x00) (eqb t 0x7_f) (leb 128 t) (λ e. ne_eqb t 0x7
 
 pub kind_full : (t : ℕ) → is_kind full (kind_of t) ≡ leb 128 t
 kind_full t =
-    go (eqb t 0x00) (eqb t 0x7_f) (leb 128 t) (λ e. ne_eqb t 0x00 (λ q. absurd (omega (arith, leb-true 128 t e))))
-    (λ e. ne_eqb t 0x7_f (λ q. absurd (omega (arith, leb-true 128 t e))))
+    go (eqb t 0x00) (eqb t 0x7F) (leb 128 t) (λ e. ne_eqb t 0x00 (λ q. absurd (omega (arith, leb-true 128 t e))))
+    (λ e. ne_eqb t 0x7F (λ q. absurd (omega (arith, leb-true 128 t e))))
   where
     go : (a b c : Bool) → (c ≡ true → a ≡ false) → (c ≡ true → b ≡ false) → is_kind full (cond a empty (cond b tombstone (cond c full other))) ≡ c
     go a b true h g = rw (h refl, g refl)
@@ -56,12 +56,12 @@ full_tag_byte h l = omega arith
 pub full_tag_not_empty : (h : ℕ) → full_tag h ≡ 0x00 → ⊥
 full_tag_not_empty h e = omega arith
 
-pub full_tag_not_tombstone : (h : ℕ) → full_tag h ≡ 0x7_f → ⊥
+pub full_tag_not_tombstone : (h : ℕ) → full_tag h ≡ 0x7F → ⊥
 full_tag_not_tombstone h e = omega arith
 
 pub full_tag_kind : (h : ℕ) → kind_of (full_tag h) ≡ full
 full_tag_kind h =
-    simp (ne_eqb (full_tag h) 0x00 (full_tag_not_empty h), ne_eqb (full_tag h) 0x7_f (full_tag_not_tombstone h), le-leb 128 (full_tag h) (full_tag_high h))
+    simp (ne_eqb (full_tag h) 0x00 (full_tag_not_empty h), ne_eqb (full_tag h) 0x7F (full_tag_not_tombstone h), le-leb 128 (full_tag h) (full_tag_high h))
 
 one-le : (t : Bool) → one t ≤ 1
 one-le true = omega arith

@@ -8,9 +8,9 @@ use Rattle.ht_file.specs.Places.{tags_fit, if_tags}
 pub data Kind : Type 0 where
   empty tombstone full other : Kind
 
--- "0x00 empty, 0x7_f tombstone"; "Full means bit 7 set. Bytes 0x01 to 0x7_e are none of the three"
+-- "0x00 empty, 0x7F tombstone"; "Full means bit 7 set. Bytes 0x01 to 0x7E are none of the three"
 abbrev pub kind_of : ℕ → Kind
-kind_of t = cond (eqb t 0x00) empty (cond (eqb t 0x7_f) tombstone (cond (leb 128 t) full other))
+kind_of t = cond (eqb t 0x00) empty (cond (eqb t 0x7F) tombstone (cond (leb 128 t) full other))
 
 -- the kind of tag t is k
 abbrev pub is_kind : Kind → Kind → Bool

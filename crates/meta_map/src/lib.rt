@@ -9,7 +9,7 @@ use answers::{Number, Outcome, Refusal, Truth};
 
 pub const EMPTY: u8 = 0x00;
 
-pub const TOMBSTONE: u8 = 0x7_f;
+pub const TOMBSTONE: u8 = 0x7F;
 
 pub const FULL_MASK: u8 = 0x80;
 
@@ -60,7 +60,7 @@ pub fn set_full(tags: &mut [u8], n: usize, bucket: u64, hash: u64) -> Outcome
 
 // Writes the tag of a bucket whose page is cleared; no other tag changes.
 pub fn set_tombstone(tags: &mut [u8], n: usize, bucket: u64) -> Outcome
-    ensures { (outcome_said result ≡ write_answer tags.old n bucket) × (tags.new ≡ tag_written tags.old n bucket 0x7_f) }
+    ensures { (outcome_said result ≡ write_answer tags.old n bucket) × (tags.new ≡ tag_written tags.old n bucket 0x7F) }
 {
     set_tag(tags, n, bucket, TOMBSTONE)
 }

@@ -23,7 +23,7 @@ pub writers : (map (λ k. writer_from k 5) (0 ∷ 1 ∷ 2 ∷ 3 ∷ 4 ∷ []) �
 writers = (refl, refl, refl)
 
 -- an audit with the rate 0.5, by its bits; a refused one has 0.0
-pub audits : map audit_values (given (record { capacity = 2; occupied = 1; rate = Ieee.of_bits binary64 0x3_fE0000000000000 }) ∷ refused 21 ∷ [])
-    ≡ record { capacity = 2; occupied = 1; rate = Ieee.of_bits binary64 0x3_fE0000000000000 } ∷ record { capacity = 0; occupied = 0; rate = Ieee.of_bits binary64 0 } ∷ []
+pub audits : map audit_values (given (record { capacity = 2; occupied = 1; rate = Ieee.of_bits binary64 0x3FE0000000000000 }) ∷ refused 21 ∷ [])
+    ≡ record { capacity = 2; occupied = 1; rate = Ieee.of_bits binary64 0x3FE0000000000000 } ∷ record { capacity = 0; occupied = 0; rate = Ieee.of_bits binary64 0 } ∷ []
 unfolding Ieee.of_bits Ieee.of_int
 audits = refl

@@ -17,8 +17,8 @@ abbrev last_byte : ℕ → List ℕ
 last_byte b = replicate 15 0 ++ (b ∷ [])
 
 -- "Reading refuses bit 126 or 127": what it answers, and the words that are then read
-pub reads : (map read_answer (last_byte 0x3_f ∷ last_byte 0x60 ∷ last_byte 0x_a0 ∷ []) ≡ given tt ∷ refused 4 ∷ refused 4 ∷ [])
-    × (map read_words (last_byte 0x3_f ∷ last_byte 0x60 ∷ last_byte 0x_a0 ∷ []) ≡ (0 ∷ 0x3_f00000000000000 ∷ []) ∷ (0 ∷ 0 ∷ []) ∷ (0 ∷ 0 ∷ []) ∷ [])
+pub reads : (map read_answer (last_byte 0x3F ∷ last_byte 0x60 ∷ last_byte 0xA0 ∷ []) ≡ given tt ∷ refused 4 ∷ refused 4 ∷ [])
+    × (map read_words (last_byte 0x3F ∷ last_byte 0x60 ∷ last_byte 0xA0 ∷ []) ≡ (0 ∷ 0x3F00000000000000 ∷ []) ∷ (0 ∷ 0 ∷ []) ∷ (0 ∷ 0 ∷ []) ∷ [])
 unfolding marked
 reads = (refl, refl)
 
@@ -26,8 +26,8 @@ reads = (refl, refl)
 abbrev sixteen : List ℕ
 sixteen = 1 ∷ 2 ∷ 3 ∷ 4 ∷ 5 ∷ 6 ∷ 7 ∷ 8 ∷ 9 ∷ 10 ∷ 11 ∷ 12 ∷ 13 ∷ 14 ∷ 15 ∷ 16 ∷ []
 
-pub words : words_of sixteen ∷ read_words sixteen ∷ bytes_of_words (0x0807060504030201 ∷ 0x100_f0_e0_d0_c0_b0_a09 ∷ []) ∷ []
-    ≡ (0x0807060504030201 ∷ 0x100_f0_e0_d0_c0_b0_a09 ∷ []) ∷ (0x0807060504030201 ∷ 0x100_f0_e0_d0_c0_b0_a09 ∷ []) ∷ sixteen ∷ []
+pub words : words_of sixteen ∷ read_words sixteen ∷ bytes_of_words (0x0807060504030201 ∷ 0x100F0E0D0C0B0A09 ∷ []) ∷ []
+    ≡ (0x0807060504030201 ∷ 0x100F0E0D0C0B0A09 ∷ []) ∷ (0x0807060504030201 ∷ 0x100F0E0D0C0B0A09 ∷ []) ∷ sixteen ∷ []
 unfolding marked
 words = refl
 

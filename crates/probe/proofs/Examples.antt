@@ -34,8 +34,8 @@ path = refl
 
 -- hash 0 in two buckets: from visit 0 on; from visit 1 on, where "the path goes 1, 1, 0"; visit 5 taken mod 4; and
 -- another table's tags
-pub probes : probe_answer (tags2 0x00 0x80) 2 0 0 ∷ probe_answer (tags2 0x7_f 0x80) 2 0 0 ∷ probe_answer (tags2 0x80 0x00) 2 0 0 ∷ probe_answer (tags2 0x01 0x81) 2 0 0
-    ∷ probe_answer (tags2 0x00 0x01) 2 0 1 ∷ probe_answer (tags2 0x80 0x01) 2 0 1 ∷ probe_answer (tags2 0x7_f 0x01) 2 0 5 ∷ probe_answer (tags2 0x00 0x80) 4097 0 0 ∷ []
+pub probes : probe_answer (tags2 0x00 0x80) 2 0 0 ∷ probe_answer (tags2 0x7F 0x80) 2 0 0 ∷ probe_answer (tags2 0x80 0x00) 2 0 0 ∷ probe_answer (tags2 0x01 0x81) 2 0 0
+    ∷ probe_answer (tags2 0x00 0x01) 2 0 1 ∷ probe_answer (tags2 0x80 0x01) 2 0 1 ∷ probe_answer (tags2 0x7F 0x01) 2 0 5 ∷ probe_answer (tags2 0x00 0x80) 4097 0 0 ∷ []
     ≡ given (empty_at 0 0) ∷ given (tombstone_at 0 0) ∷ given (hit_at 0 0) ∷ given closed
     ∷ given (empty_at 0 3) ∷ given (hit_at 0 3) ∷ given (tombstone_at 0 3) ∷ refused 1 ∷ []
 unfolding probing
@@ -46,7 +46,7 @@ probes = refl
 abbrev allocate3 : Limit → ℕ → ℕ → ℕ → Answer ℕ
 allocate3 limit a b c = allocate_answer limit (tags3 a b c) 3 (2 ^ 57)
 
-pub allocations : (allocate3 hit_limit 0x81 0x81 0x00 ∷ allocate3 hit_limit 0x7_f 0x81 0x81 ∷ allocate3 hit_limit 0x80 0x00 0x81 ∷ allocate3 hit_limit 0x80 0x00 0x01 ∷ [])
+pub allocations : (allocate3 hit_limit 0x81 0x81 0x00 ∷ allocate3 hit_limit 0x7F 0x81 0x81 ∷ allocate3 hit_limit 0x80 0x00 0x81 ∷ allocate3 hit_limit 0x80 0x00 0x01 ∷ [])
     ∷ (allocate3 (limits.Hits 1) 0x00 0x00 0x81 ∷ allocate3 (limits.Hits 0) 0x00 0x00 0x81 ∷ allocate_answer hit_limit (tags3 0x00 0x00 0x00) 0 0 ∷ [])
     ∷ (allocate3 limits.Unlimited 0x00 0x00 0x81 ∷ allocate3 limits.Unlimited 0x80 0x00 0x81 ∷ allocate3 limits.Unlimited 0x80 0x00 0x01 ∷ []) ∷ []
     ≡ (given 2 ∷ given 0 ∷ refused 10 ∷ refused 11 ∷ []) ∷ (given 0 ∷ refused 10 ∷ refused 1 ∷ [])
@@ -59,7 +59,7 @@ pub limit_of_01 : map (allows hit_limit) (0 ∷ 9998 ∷ 9999 ∷ []) ∷ map (a
 limit_of_01 = refl
 
 -- the tags afterwards
-pub allocated_tags_lem : allocated_tags hit_limit (tags3 0x81 0x7_f 0x00) 3 0 ∷ allocated_tags hit_limit (tags3 0x80 0x81 0x00) 3 0 ∷ [] ≡ tags3 0x81 0x80 0x00 ∷ tags3 0x80 0x81 0x00 ∷ []
+pub allocated_tags_lem : allocated_tags hit_limit (tags3 0x81 0x7F 0x00) 3 0 ∷ allocated_tags hit_limit (tags3 0x80 0x81 0x00) 3 0 ∷ [] ≡ tags3 0x81 0x80 0x00 ∷ tags3 0x80 0x81 0x00 ∷ []
 unfolding allocating
 allocated_tags_lem = refl
 
@@ -73,7 +73,7 @@ id1 = 8 ∷ replicate 31 7
 pub page_end_lem : page_end (image1 0x80) 1 0 ≡ id1
 page_end_lem = refl
 
-pub lookups : lookup_answer (image1 0x80) 1 0 id1 ∷ lookup_answer (image1 0x80) 1 0 (replicate 32 7) ∷ lookup_answer (image1 0x7_f) 1 0 id1 ∷ lookup_answer (image1 0x81) 1 0 id1
+pub lookups : lookup_answer (image1 0x80) 1 0 id1 ∷ lookup_answer (image1 0x80) 1 0 (replicate 32 7) ∷ lookup_answer (image1 0x7F) 1 0 id1 ∷ lookup_answer (image1 0x81) 1 0 id1
     ∷ lookup_answer (image1 0x00) 1 0 id1 ∷ lookup_answer (image1 0x80) 2 0 id1 ∷ []
     ≡ given (found_at 0) ∷ given unreached ∷ given unreached ∷ given unreached ∷ given absent ∷ refused 1 ∷ []
 unfolding looking_up
@@ -89,7 +89,7 @@ said = (refl, refl, refl)
 -- a table that meets every premise of `found-after-allocation`: n=3, hash 0, tags 81 7F 00, of which bucket 1 is given;
 -- then its image, all pages zero, in which bucket 1 alone has the tag 80
 abbrev three_tags : List ℕ
-three_tags = 0x81 ∷ 0x7_f ∷ 0x00 ∷ replicate 4093 0
+three_tags = 0x81 ∷ 0x7F ∷ 0x00 ∷ replicate 4093 0
 
 abbrev three_image : List ℕ
 three_image = 0x81 ∷ 0x80 ∷ 0x00 ∷ replicate 16381 0

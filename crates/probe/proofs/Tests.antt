@@ -14,13 +14,13 @@ empty_is t e = kind_empty t ∙ eq-eqb t 0x00 e
 pub empty_not : (t : ℕ) → (t ≡ 0x00 → ⊥) → is_empty t ≡ false
 empty_not t e = kind_empty t ∙ ne_eqb t 0x00 e
 
-pub tombstone_is : (t : ℕ) → t ≡ 0x7_f → is_tombstone t ≡ true
-tombstone_is t e = kind_tombstone t ∙ eq-eqb t 0x7_f e
+pub tombstone_is : (t : ℕ) → t ≡ 0x7F → is_tombstone t ≡ true
+tombstone_is t e = kind_tombstone t ∙ eq-eqb t 0x7F e
 
-pub tombstone_not : (t : ℕ) → (t ≡ 0x7_f → ⊥) → is_tombstone t ≡ false
-tombstone_not t e = kind_tombstone t ∙ ne_eqb t 0x7_f e
+pub tombstone_not : (t : ℕ) → (t ≡ 0x7F → ⊥) → is_tombstone t ≡ false
+tombstone_not t e = kind_tombstone t ∙ ne_eqb t 0x7F e
 
-pub free_not : (t : ℕ) → (t ≡ 0x00 → ⊥) → (t ≡ 0x7_f → ⊥) → is_free t ≡ false
+pub free_not : (t : ℕ) → (t ≡ 0x00 → ⊥) → (t ≡ 0x7F → ⊥) → is_free t ≡ false
 free_not t a b = ap₂ ◌||◌ (empty_not t a) (tombstone_not t b)
 
 -- a full tag is no free bucket's

@@ -62,7 +62,7 @@ abbrev replay : List ℕ → ℕ → List ℕ → Answer Did
 replay log sync hashes = replay_answer Zeros 1 (replicate 8192 0) log (under sync) hashes
 
 pub answers : (replay_answer Zeros 0 [] [] (under 7) [] ∷ replay_answer Zeros 1 (replicate 8191 0) [] (under 7) [] ∷ replay [] 7 [] ∷ replay (replicate 4095 1) 7 [] ∷ replay (replicate 4096 2) 7 [] ∷ replay (page (9 ∷ [])) 8 [] ∷ [])
-    ∷ (replay (page (9 ∷ [])) 7 [] ∷ replay (page (a_diff (replicate 15 0 ++ (0x40 ∷ [])))) 7 [] ∷ replay (page (a_diff (replicate 15 0x_fF ++ (0x3_f ∷ [])))) 7 [] ∷ replay (page (a_clear 1)) 7 [] ∷ [])
+    ∷ (replay (page (9 ∷ [])) 7 [] ∷ replay (page (a_diff (replicate 15 0 ++ (0x40 ∷ [])))) 7 [] ∷ replay (page (a_diff (replicate 15 0xFF ++ (0x3F ∷ [])))) 7 [] ∷ replay (page (a_clear 1)) 7 [] ∷ [])
     ∷ (replay (page (a_clear 0)) 7 (0 ∷ []) ∷ replay (page an_update) 7 [] ∷ replay (page an_update) 7 (0 ∷ []) ∷ replay (page (a_clear 0)) 7 [] ∷ replay (page (2 ∷ [])) 7 [] ∷ []) ∷ []
     ≡ (refused 1 ∷ refused 1 ∷ given nothing ∷ refused 5 ∷ refused 7 ∷ given stale ∷ []) ∷ (refused 8 ∷ refused 4 ∷ refused 6 ∷ refused 9 ∷ [])
     ∷ (refused 2 ∷ refused 2 ∷ given applied ∷ given applied ∷ given applied ∷ []) ∷ []
@@ -115,11 +115,11 @@ module _ (table : List ℕ) (long : length table ≡ 8192) (empty : get_or table
   fits : image_fits 1 (length table) ≡ true
   fits = ap (image_fits 1) long
 
-  tag-written : value_at 1 (with_hashes entries []) (get_or table 0 0) 0 ≡ 0x7_f
+  tag-written : value_at 1 (with_hashes entries []) (get_or table 0 0) 0 ≡ 0x7F
   unfolding with_hashes value_at named_in entry_names entry_gives
   tag-written = refl
 
-  under-7 : cleared_under table 7 ≡ (given applied, 0x7_f)
+  under-7 : cleared_under table 7 ≡ (given applied, 0x7F)
   under-7 =
       ap₂ (λ (a : Answer Did) (v : ℕ). (a, v)) (replay-accepts Zeros 1 (edition_one 7) entries wide well inside (under 7) own table [] fits no_update)
       (ap (λ (l : List ℕ). get_or l 0 0) (replay-applies Zeros 1 (edition_one 7) entries wide well inside (under 7) own table [] fits no_update) ∙ replayed-at 1 (with_hashes entries []) table 0 (omega arith) ∙ tag-written)
@@ -132,11 +132,11 @@ module _ (table : List ℕ) (long : length table ≡ 8192) (empty : get_or table
       ∙ replay-started Zeros 1 (length table) log (under 8) 0 fits (λ z. omega (arith, log-length (edition_one 7) entries wide)) (given 7) (start_back (edition_one 7) entries wide) in
       ap₂ (λ (a : Answer Did) (v : ℕ). (a, v)) (sym said) (ap (λ (l : List ℕ). get_or l 0 0) (stale_leaves Zeros 1 table log (under 8) [] (sym said)) ∙ empty)
 
-  both : map (cleared_under table) (7 ∷ 8 ∷ []) ≡ (given applied, 0x7_f) ∷ (given stale, 0) ∷ []
+  both : map (cleared_under table) (7 ∷ 8 ∷ []) ≡ (given applied, 0x7F) ∷ (given stale, 0) ∷ []
   both = ap₂ (λ (a b : Answer Did × ℕ). a ∷ b ∷ []) under-7 under-8
 
--- "n=1, tag 0, log with sync 7 and clear 0: 0x7_f under 7, stale under 8"
-pub replays : map (cleared_under (replicate 8192 0)) (7 ∷ 8 ∷ []) ≡ (given applied, 0x7_f) ∷ (given stale, 0) ∷ []
+-- "n=1, tag 0, log with sync 7 and clear 0: 0x7F under 7, stale under 8"
+pub replays : map (cleared_under (replicate 8192 0)) (7 ∷ 8 ∷ []) ≡ (given applied, 0x7F) ∷ (given stale, 0) ∷ []
 replays = both (replicate 8192 0) (length-replicate {A = ℕ} 8192 0) (get_or-replicate {A = ℕ} 8192 0 0 0 (omega arith))
 
 -- ---- a power cut, on a table of zeros: bucket 0 is updated, with slot 0 alone marked, and then cleared; of all this only
@@ -232,7 +232,7 @@ abbrev pub places : List ℕ
 places = 0 ∷ 1 ∷ 4096 ∷ 4128 ∷ 8151 ∷ 8152 ∷ 8159 ∷ 8160 ∷ 8191 ∷ []
 
 pub cut_ends : (replay_answer Zeros 1 cut_image cut_log (under 7) (0 ∷ []) ≡ given applied)
-    × (map (λ j. get_or (replay_image Zeros 1 cut_image cut_log (under 7) (0 ∷ [])) j 0) places ≡ 0x7_f ∷ 0 ∷ 5 ∷ 0 ∷ 0 ∷ 2 ∷ 2 ∷ 1 ∷ 1 ∷ [])
+    × (map (λ j. get_or (replay_image Zeros 1 cut_image cut_log (under 7) (0 ∷ [])) j 0) places ≡ 0x7F ∷ 0 ∷ 5 ∷ 0 ∷ 0 ∷ 2 ∷ 2 ∷ 1 ∷ 1 ∷ [])
 unfolding with_hashes value_at named_in entry_names entry_gives slots_below marked digit
 cut_ends = (
   (demand-3 Zeros 1 zeros cut_log (under 7) (0 ∷ []) cut-accepted cut_image cut_only).0,
@@ -257,7 +257,7 @@ abbrev on_table : List ℕ → Expected → Answer Did
 on_table log want = replay_answer Zeros 1 (replicate 8192 0) log want []
 
 -- its own number and seed; another number; another seed; both; a log of edition one under another seed; 5 and 7 come first
-pub stores : on_table log_two_lem (under 7) ∷ on_table log_two_lem (under 8) ∷ on_table log_two_lem (other 7) ∷ on_table log_two_lem (other 8) ∷ on_table (page (a_clear 0)) (other 7) ∷ on_table (take 4095 log_two_lem) (other 7) ∷ on_table (0x_b2 ∷ 2 ∷ replicate 4094 0) (other 7) ∷ []
+pub stores : on_table log_two_lem (under 7) ∷ on_table log_two_lem (under 8) ∷ on_table log_two_lem (other 7) ∷ on_table log_two_lem (other 8) ∷ on_table (page (a_clear 0)) (other 7) ∷ on_table (take 4095 log_two_lem) (other 7) ∷ on_table (0xB2 ∷ 2 ∷ replicate 4094 0) (other 7) ∷ []
     ≡ refused 9 ∷ given stale ∷ refused 26 ∷ refused 26 ∷ given applied ∷ refused 5 ∷ refused 7 ∷ []
 unfolding replay_tests start_in seed_of same_bytes check_answer all_inside updates_in read_by next_at block marked slots_below all_zero
 stores = refl

@@ -89,15 +89,15 @@ stepped_is : (n : ℕ) (s : Step) (image out : List ℕ) → length out ≡ leng
 stepped_is n s image out l f = tabulate_is (λ j. cond (names n s j) (gives n s j) (get_or image j 0)) (length image) out l f
 
 -- a clear writes the tag alone
-pub clear_image : (n b h : ℕ) (image : List ℕ) → b < length image → set image b 0x7_f ≡ stepped n (record { entry = clear b; hash = h }) image
+pub clear_image : (n b h : ℕ) (image : List ℕ) → b < length image → set image b 0x7F ≡ stepped n (record { entry = clear b; hash = h }) image
 unfolding entry_names entry_gives
 clear_image n b h image l =
-    stepped_is n (record { entry = clear b; hash = h }) image (set image b 0x7_f) (length-set image b 0x7_f) (λ j k. go j k (ℕ_discrete j b))
+    stepped_is n (record { entry = clear b; hash = h }) image (set image b 0x7F) (length-set image b 0x7F) (λ j k. go j k (ℕ_discrete j b))
   where
-    go : (j : ℕ) → j < length image → Dec (j ≡ b) → get_or (set image b 0x7_f) j 0 ≡ cond (eqb j b) 0x7_f (get_or image j 0)
+    go : (j : ℕ) → j < length image → Dec (j ≡ b) → get_or (set image b 0x7F) j 0 ≡ cond (eqb j b) 0x7F (get_or image j 0)
     go j k (yes e) =
-        ap (λ (i : ℕ). get_or (set image b 0x7_f) i 0) e ∙ get_or-set_same image b 0x7_f 0 l ∙ sym (ap (λ (t : Bool). cond t 0x7_f (get_or image j 0)) (eq-eqb j b e))
-    go j k (no e) = get_or-set_other image b j 0x7_f 0 e ∙ sym (ap (λ (t : Bool). cond t 0x7_f (get_or image j 0)) (ne_eqb j b e))
+        ap (λ (i : ℕ). get_or (set image b 0x7F) i 0) e ∙ get_or-set_same image b 0x7F 0 l ∙ sym (ap (λ (t : Bool). cond t 0x7F (get_or image j 0)) (eq-eqb j b e))
+    go j k (no e) = get_or-set_other image b j 0x7F 0 e ∙ sym (ap (λ (t : Bool). cond t 0x7F (get_or image j 0)) (ne_eqb j b e))
 
 -- an update writes its tag, and its page's marked slots and last 40 bytes
 module _ (n : ℕ) (id ws : List ℕ) (ns : List (List ℕ)) (el : List ℕ) (b h : ℕ) (image : List ℕ) (long : length image ≡ image_length n) (inside : b < n) where

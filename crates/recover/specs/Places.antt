@@ -42,7 +42,7 @@ page_gives id ws ns el o =
 
 -- "Update: full tag, marked slots, last 40 bytes. Clear: tombstone": the value that an entry gives a place that it names
 unfoldable pub entry_gives : ℕ → Entry → ℕ → ℕ → ℕ
-entry_gives n (clear b) h j = 0x7_f
+entry_gives n (clear b) h j = 0x7F
 entry_gives n (update id ws ns el b) h j = cond (eqb j b) (full_tag h) (page_gives id ws ns el (j - page_start n b))
 
 abbrev pub gives : ℕ → Step → ℕ → ℕ

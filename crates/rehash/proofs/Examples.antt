@@ -16,7 +16,7 @@ use Rattle.rehash.specs.declared.Grown.TheVariants as grown
 
 -- a marker whose counts have all their bytes; written, and none written; "writing: 17"
 pub written : (written_marker 0x04030201 0x08070605 ∷ written_marker 9 8 ∷ []
-    ≡ (0x4_e ∷ 0x4_f ∷ 0x4_d ∷ 0x54 ∷ 0x52 ∷ 0x48 ∷ 0x31 ∷ 0x00 ∷ 0x01 ∷ 0x02 ∷ 0x03 ∷ 0x04 ∷ 0x05 ∷ 0x06 ∷ 0x07 ∷ 0x08 ∷ []) ∷ replicate 16 0 ∷ [])
+    ≡ (0x4E ∷ 0x4F ∷ 0x4D ∷ 0x54 ∷ 0x52 ∷ 0x48 ∷ 0x31 ∷ 0x00 ∷ 0x01 ∷ 0x02 ∷ 0x03 ∷ 0x04 ∷ 0x05 ∷ 0x06 ∷ 0x07 ∷ 0x08 ∷ []) ∷ replicate 16 0 ∷ [])
     × (write_answer 0 1 ∷ write_answer 1 1 ∷ write_answer 9 8 ∷ [] ≡ given tt ∷ refused 17 ∷ refused 17 ∷ [])
 written = (refl, refl)
 
@@ -24,7 +24,7 @@ abbrev counts : ℕ → ℕ → Counts
 counts o n = record { old = o; new = n }
 
 -- "Marker reading: 15, 16, 17": one byte less, one byte more, another first byte, 8 to 8, 8 to 4
-pub read_back : map read_answer (marker 0x04030201 0x08070605 ∷ take 15 (marker 4 8) ∷ (marker 4 8 ++ (0 ∷ [])) ∷ (0x4_f ∷ replicate 15 0) ∷ marker 8 8 ∷ marker 8 4 ∷ [])
+pub read_back : map read_answer (marker 0x04030201 0x08070605 ∷ take 15 (marker 4 8) ∷ (marker 4 8 ++ (0 ∷ [])) ∷ (0x4F ∷ replicate 15 0) ∷ marker 8 8 ∷ marker 8 4 ∷ [])
     ≡ given (counts 0x04030201 0x08070605) ∷ refused 15 ∷ refused 15 ∷ refused 16 ∷ refused 17 ∷ refused 17 ∷ []
 unfolding read_answer
 read_back = refl
@@ -55,7 +55,7 @@ pub growths : map (λ (ns : ℕ × ℕ). growth_answer hit_limit (one_old 0x80) 
 unfolding grown_to
 growths = refl
 
-pub images : growth_image hit_limit (one_old 0x80) 1 two_new 2 (1 ∷ []) ∷ growth_image hit_limit (one_old 0x7_f) 1 two_new 2 (1 ∷ []) ∷ growth_image hit_limit (one_old 0x80) 1 two_new 2 [] ∷ []
+pub images : growth_image hit_limit (one_old 0x80) 1 two_new 2 (1 ∷ []) ∷ growth_image hit_limit (one_old 0x7F) 1 two_new 2 (1 ∷ []) ∷ growth_image hit_limit (one_old 0x80) 1 two_new 2 [] ∷ []
     ≡ two_grown ∷ replicate 12288 0 ∷ two_new ∷ []
 unfolding grown_to
 images = refl

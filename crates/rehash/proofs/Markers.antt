@@ -15,7 +15,7 @@ use Rattle.rehash.specs.Marker.{magic, marker, counts_of, read_answer, written_m
 
 -- the magic as a number
 abbrev pub magic_number : ℕ
-magic_number = 0x00314852544_d4_f4_e
+magic_number = 0x00314852544D4F4E
 
 module _ (bs : List ℕ) (long : length bs ≡ 16) where
   first-eight : take 8 bs ≡ block 8 bs 0

@@ -8,7 +8,7 @@ use Rattle.rehash.specs.declared.MarkerRead.TheVariants as read
 
 -- "NOMTRH1" and a zero byte
 abbrev pub magic : List ℕ
-magic = 0x4_e ∷ 0x4_f ∷ 0x4_d ∷ 0x54 ∷ 0x52 ∷ 0x48 ∷ 0x31 ∷ 0x00 ∷ []
+magic = 0x4E ∷ 0x4F ∷ 0x4D ∷ 0x54 ∷ 0x52 ∷ 0x48 ∷ 0x31 ∷ 0x00 ∷ []
 
 -- "marker = "NOMTRH1" and a zero byte, old u32, new u32"
 abbrev pub marker : ℕ → ℕ → List ℕ

@@ -17,7 +17,7 @@ use probe::Allocated;
 const MARKER_LEN: usize = 16;
 
 // "NOMTRH1" and a zero byte, as the number that these bytes are.
-const MARKER_MAGIC: u64 = 0x0031_4852_544_d_4_f4_e;
+const MARKER_MAGIC: u64 = 0x0031_4852_544D_4F4E;
 
 // A marker that was written, or zeros.
 #[derive(Drop)]
@@ -64,7 +64,7 @@ pub fn write_marker(old: u32, new: u32) -> MarkerAnswer
     MarkerAnswer {
         outcome: Outcome::Done,
         bytes: [
-            0x4_e, 0x4_f, 0x4_d, 0x54, 0x52, 0x48, 0x31, 0x00, o[0], o[1], o[2], o[3], n[0], n[1],
+            0x4E, 0x4F, 0x4D, 0x54, 0x52, 0x48, 0x31, 0x00, o[0], o[1], o[2], o[3], n[0], n[1],
             n[2], n[3],
         ],
     }

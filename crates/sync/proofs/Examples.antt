@@ -77,10 +77,10 @@ pub steps : (stepped (state_of 0 hit_limit Fresh 5) (mem (tags 0 0 0) []) [] (re
     ∷ stepped (state_of 3 hit_limit Fresh 5) (mem (tags 0 0 0) []) [] (reserved (Cell 0)) ∷ stepped (state_of 3 hit_limit Fresh 5) (mem_of (tags 0 0 0) [] [] []) page (reserved (Cell 0))
     ∷ stepped (state_of 3 hit_limit Fresh 5) (mem (tags 0 0 0) []) page (reserved (Cell 0)) ∷ stepped (state_of 3 hit_limit (Finished 4096) 5) (mem (tags 0 0 0) []) page (reserved (Cell 0)) ∷ [])
     ∷ (asked (tags 0 0 0) [] (reserved (Cell 0)) ∷ asked (tags 0 0 0) [] (updating (Cell 0)) ∷ asked (tags 0 0 0) (3 ∷ []) (updating (Cell 0)) ∷ asked (tags 0 0 0) [] (clearing (Known 3))
-    ∷ asked (tags 0x7_f 0 0) [] (clearing (Known 0)) ∷ asked (tags 0 0 0) [] (clearing FreshPage) ∷ asked (tags 0 0 0) (unset ∷ []) (clearing (Cell 0)) ∷ asked (tags 0x81 0 0) [] (updating (Known 0)) ∷ asked (tags 0x81 0 0) [] (clearing (Known 0)) ∷ [])
+    ∷ asked (tags 0x7F 0 0) [] (clearing (Known 0)) ∷ asked (tags 0 0 0) [] (clearing FreshPage) ∷ asked (tags 0 0 0) (unset ∷ []) (clearing (Cell 0)) ∷ asked (tags 0x81 0 0) [] (updating (Known 0)) ∷ asked (tags 0x81 0 0) [] (clearing (Known 0)) ∷ [])
     ∷ (stepped (state_of 3 hit_limit (open_at One 4087) 5) (mem (tags 0x85 0 0) []) page (clearing (Known 0)) ∷ stepped (state_of 3 hit_limit (open_at One 3999) 5) (mem (tags 0x81 0x81 0) []) page (updating FreshPage)
     ∷ asked (tags 0x80 0x81 0) [] (updating FreshPage) ∷ asked (tags 0x81 0x81 0) [] (updating FreshPage) ∷ [])
-    ∷ (asked (tags 0 0x85 0) [] (clearing (Known 1)) ∷ asked (tags 0x80 0 0) [] (updating (Known 0)) ∷ asked (tags 0x81 0x7_f 0) [] (updating FreshPage)
+    ∷ (asked (tags 0 0x85 0) [] (clearing (Known 1)) ∷ asked (tags 0x80 0 0) [] (updating (Known 0)) ∷ asked (tags 0x81 0x7F 0) [] (updating FreshPage)
     ∷ asked (tags 0 0 0x80) (2 ∷ []) (updating (Cell 0)) ∷ asked (tags 0 0 0) (unset ∷ []) (updating (Cell 0)) ∷ []) ∷ []
     ≡ (refused 1 ∷ refused 1 ∷ refused 2 ∷ refused 2 ∷ refused 12 ∷ refused 12 ∷ []) ∷ (refused 4 ∷ refused 2 ∷ refused 9 ∷ refused 9 ∷ refused 14 ∷ refused 14 ∷ refused 14 ∷ refused 14 ∷ refused 14 ∷ [])
     ∷ (refused 13 ∷ refused 13 ∷ refused 10 ∷ refused 11 ∷ []) ∷ (given (1, 2) ∷ given (0, 1) ∷ given (1, 2) ∷ given (2, 3) ∷ given (0, 1) ∷ []) ∷ []
@@ -101,8 +101,8 @@ abbrev left : List ℕ → List ℕ → Change → Mem
 left ts cells c = mem_by (effect_of open5 (mem ts cells) page c) open5 (mem ts cells) page c
 
 -- the memory after a clear, an update of a known bucket, one that takes a bucket for a cell, and a refusal
-pub memories : left (tags 0 0x85 0) [] (clearing (Known 1)) ∷ left (tags 0x80 0 0) [] (updating (Known 0)) ∷ left (tags 0x81 0x7_f 0) (7 ∷ unset ∷ []) (updating (Cell 1)) ∷ left (tags 0x81 0 0) [] (updating (Known 0)) ∷ []
-    ≡ mem_of (tags 0 0x7_f 0) (1 ∷ []) [] (logged (clear_bytes 1) 4082) ∷ mem_of (tags 0x80 0 0) (9 ∷ []) [] (logged (update_bytes 0) 3994)
+pub memories : left (tags 0 0x85 0) [] (clearing (Known 1)) ∷ left (tags 0x80 0 0) [] (updating (Known 0)) ∷ left (tags 0x81 0x7F 0) (7 ∷ unset ∷ []) (updating (Cell 1)) ∷ left (tags 0x81 0 0) [] (updating (Known 0)) ∷ []
+    ≡ mem_of (tags 0 0x7F 0) (1 ∷ []) [] (logged (clear_bytes 1) 4082) ∷ mem_of (tags 0x80 0 0) (9 ∷ []) [] (logged (update_bytes 0) 3994)
     ∷ mem_of (tags 0x81 0x80 0) (1 ∷ []) (7 ∷ 1 ∷ []) (logged (update_bytes 1) 3994) ∷ mem (tags 0x81 0 0) [] ∷ []
 unfolding effect_of allocating marked slots_below put record_of flat block
 memories = refl
@@ -122,7 +122,7 @@ state_left ts c = state_by (effect_of open5 (mem ts []) page c) open5 c
 
 -- and the state: "occupied falls by one", stays, "rises by one"; a refusal leaves it; a false number stays within its
 -- type
-pub states : state_left (tags 0 0x85 0) (clearing (Known 1)) ∷ state_left (tags 0x80 0 0) (updating (Known 0)) ∷ state_left (tags 0x81 0x7_f 0) (updating FreshPage) ∷ state_left (tags 0x81 0 0) (updating (Known 0))
+pub states : state_left (tags 0 0x85 0) (clearing (Known 1)) ∷ state_left (tags 0x80 0 0) (updating (Known 0)) ∷ state_left (tags 0x81 0x7F 0) (updating FreshPage) ∷ state_left (tags 0x81 0 0) (updating (Known 0))
     ∷ state_by (effect_of (state_of 3 hit_limit (open_at One 5) 0) (mem (tags 0x85 0 0) []) page (clearing (Known 0))) (state_of 3 hit_limit (open_at One 5) 0) (clearing (Known 0))
     ∷ state_by (effect_of (state_of 3 hit_limit (open_at One 5) (2 ^ 64 - 1)) (mem (tags 0 0 0) []) page (updating FreshPage)) (state_of 3 hit_limit (open_at One 5) (2 ^ 64 - 1)) (updating FreshPage) ∷ []
     ≡ state_of 3 hit_limit (open_at One 14) 4 ∷ state_of 3 hit_limit (open_at One 102) 5 ∷ state_of 3 hit_limit (open_at One 102) 6 ∷ state_of 3 hit_limit (open_at One 5) 5 ∷ state_of 3 hit_limit (open_at One 14) 0 ∷ state_of 3 hit_limit (open_at One 102) (2 ^ 64 - 1) ∷ []
@@ -154,7 +154,7 @@ started rest = 1 ∷ 7 ∷ 0 ∷ 0 ∷ 0 ∷ rest
 
 pub sync_memories : sync_mem 3 two [] [] (edition_one 7) ∷ sync_mem 3 two pages both (edition_one 7) ∷ sync_mem 3 two pages twice (edition_one 7) ∷ sync_mem 3 two page both (edition_one 7) ∷ []
     ≡ mem_of (tags 0x85 0x81 0) (0 ∷ []) [] (started (2 ∷ replicate 4090 0)) ∷ mem_of (tags 0x80 0x81 0) (1 ∷ []) [] (started (clear_bytes 0 ++ (update_bytes 0 ++ (2 ∷ replicate 3984 0))))
-    ∷ mem_of (tags 0x7_f 0x81 0) (1 ∷ []) [] (started (clear_bytes 0 ++ replicate 4082 6)) ∷ two ∷ []
+    ∷ mem_of (tags 0x7F 0x81 0) (1 ∷ []) [] (started (clear_bytes 0 ++ replicate 4082 6)) ∷ two ∷ []
 unfolding sync_mem before_changes all_of mem_all change_at change_mem effect_of allocating marked slots_below count_of put record_of flat block begin_answer finish_answer
 sync_memories = refl
 
@@ -162,9 +162,9 @@ pub sync_writers : sync_writer 3 two pages both (edition_one 7) (open_at One 77)
 unfolding sync_writer before_changes all_of mem_all change_at change_mem effect_of allocating marked slots_below count_of put record_of flat block begin_answer finish_answer
 sync_writers = refl
 
--- the same sync with a log of edition two: the store is named in the start, and 0x_b2 stands before each tag
+-- the same sync with a log of edition two: the store is named in the start, and 0xB2 stands before each tag
 pub sync_two : (sync_says 3 two pages both (edition_two 7 seed) ∷ sync_says 3 two pages twice (edition_two 7 seed) ∷ [] ≡ said_done 2 4096 ∷ said_refused_at 1 14 ∷ [])
-    × ((sync_mem 3 two pages both (edition_two 7 seed)).log ≡ 0x_b2 ∷ 1 ∷ 7 ∷ 0 ∷ 0 ∷ 0 ∷ (seed ++ ((0x_b2 ∷ clear_bytes 0) ++ ((0x_b2 ∷ update_bytes 0) ++ (0x_b2 ∷ 2 ∷ replicate 3964 0)))))
+    × ((sync_mem 3 two pages both (edition_two 7 seed)).log ≡ 0xB2 ∷ 1 ∷ 7 ∷ 0 ∷ 0 ∷ 0 ∷ (seed ++ ((0xB2 ∷ clear_bytes 0) ++ ((0xB2 ∷ update_bytes 0) ++ (0xB2 ∷ 2 ∷ replicate 3964 0)))))
 unfolding sync_says sync_mem before_changes all_of mem_all change_at change_mem effect_of allocating marked slots_below count_of put record_of flat block begin_answer finish_answer
 sync_two = (refl, refl)
 

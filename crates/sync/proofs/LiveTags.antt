@@ -46,7 +46,7 @@ twice false x y z = refl
 pub tags_as_entry : (st : SyncState) (m : Mem) (page : List ℕ) (c : Change) (e : Effect) → effect_of st m page c ≡ given e → (i : ℕ) → i < length m.tags → get_or (tags_by e c.hash m.tags) i 0
     ≡ cond (eqb i (bucket_of e)) (entry_gives st.n (entry_by c page e) c.hash i) (get_or m.tags i 0)
 unfolding entry_gives
-tags_as_entry st m page c (cleared b) h i l = set_at b i 0x7_f m.tags l
+tags_as_entry st m page c (cleared b) h i l = set_at b i 0x7F m.tags l
 tags_as_entry st m page c (allocated b) h i l =
     set_at b i (full_tag c.hash) m.tags l ∙ twice (eqb i b) (full_tag c.hash) _ (get_or m.tags i 0)
 tags_as_entry st m page c (updated b) h i l = go (eqb i b) refl

@@ -63,13 +63,13 @@ module _ (st : SyncState) (m : Mem) (page : List ℕ) (c : Change) (r : StepAnsw
     done = taken-clears clearing b q answered
 
     -- "the tag must be the full tag of the page's own hash": the bucket had it, and is a tombstone now
-    pub clear-hits-its-own : (get_or m.tags b 0 ≡ full_tag c.hash) × (get_or after.tags b 0 ≡ 0x7_f)
+    pub clear-hits-its-own : (get_or m.tags b 0 ≡ full_tag c.hash) × (get_or after.tags b 0 ≡ 0x7F)
     clear-hits-its-own =
         let a = accepted_change st m page c (cleared b) done in
         let inside : b < st.n = does-clears st.n m.tags m.cells c b (after-cleared st m c (does_of st.n m.tags m.cells c) b a.2).0 in
         let long = tags_fit_facts st.n (length m.tags) a.0 in (
           cleared-own st m page c b done,
-          ap (λ (x : Mem). get_or x.tags b 0) (p.memory ∙ ap (λ (e : Answer Effect). mem_by e st m page c) done) ∙ get_or-set_same m.tags b 0x7_f 0 (omega (arith, long, inside)),
+          ap (λ (x : Mem). get_or x.tags b 0) (p.memory ∙ ap (λ (e : Answer Effect). mem_by e st m page c) done) ∙ get_or-set_same m.tags b 0x7F 0 (omega (arith, long, inside)),
         )
 
     -- an image with these tags: a lookup answers another bucket or none, whichever page is sought

@@ -39,7 +39,7 @@ module _ (st : SyncState) (m : Mem) (page : List ℕ) (c : Change) where
       let d = (after-cleared st m c (does_of st.n m.tags m.cells c) b a.2).0 in
       let l = does-clears st.n m.tags m.cells c b d in
       let k = kind-taken st m page c (cleared b) h in
-      omega (arith, count_set full m.tags b 0x7_f st.n l (omega arith), ap one k)
+      omega (arith, count_set full m.tags b 0x7F st.n l (omega arith), ap one k)
   occupied-kept (given (allocated b)) h o =
       let a = accepted_change st m page c (allocated b) h in
       let f = tags_fit_facts st.n (length m.tags) a.0 in

@@ -209,7 +209,7 @@ record Fit (st : SyncState) (m : Mem) : Type 0 where
 
 module _ (st : SyncState) (m : Mem) (page : List ℕ) (c : Change) where
   tags-long : (e : Effect) → length (tags_by e c.hash m.tags) ≡ length m.tags
-  tags-long (cleared b) = length-set m.tags b 0x7_f
+  tags-long (cleared b) = length-set m.tags b 0x7F
   tags-long (updated b) = refl
   tags-long (allocated b) = length-set m.tags b (full_tag c.hash)
 

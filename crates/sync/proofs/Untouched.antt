@@ -32,7 +32,7 @@ pub data Misses (i : ℕ) : List Entry → Type 0 where
 
 -- one tag, of one change
 tag_other : (e : Effect) (h : ℕ) (tags : List ℕ) (i : ℕ) → (bucket_of e ≡ i → ⊥) → get_or (tags_by e h tags) i 0 ≡ get_or tags i 0
-tag_other (cleared b) h tags i n = get_or-set_other tags b i 0x7_f 0 (λ q. n (sym q))
+tag_other (cleared b) h tags i n = get_or-set_other tags b i 0x7F 0 (λ q. n (sym q))
 tag_other (updated b) h tags i n = refl
 tag_other (allocated b) h tags i n = get_or-set_other tags b i (full_tag h) 0 (λ q. n (sym q))
 

@@ -128,7 +128,7 @@ size_by ed c (allocated b) = update_size ed (count_of c.diff.words)
 
 -- "Tag becomes a tombstone"; allocation "writes the full tag"
 abbrev pub tags_by : Effect → ℕ → List ℕ → List ℕ
-tags_by (cleared b) h tags = set tags b 0x7_f
+tags_by (cleared b) h tags = set tags b 0x7F
 tags_by (updated b) h tags = tags
 tags_by (allocated b) h tags = set tags b (full_tag h)
 

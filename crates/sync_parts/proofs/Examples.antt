@@ -21,7 +21,7 @@ pub said : map name_said (N.Bucket 7 ∷ N.None ∷ N.Refused LengthUnfit ∷ []
 said = refl
 
 -- the hash's tag alone: no other full one
-pub rule : map (tag_fits (2 ^ 57)) (0x80 ∷ 0x81 ∷ 0x7_f ∷ 0 ∷ []) ≡ false ∷ true ∷ false ∷ false ∷ []
+pub rule : map (tag_fits (2 ^ 57)) (0x80 ∷ 0x81 ∷ 0x7F ∷ 0 ∷ []) ≡ false ∷ true ∷ false ∷ false ∷ []
 rule = refl
 
 pub bodies : body_of true (5 ∷ 0 ∷ []) ∷ body_of false (5 ∷ 0 ∷ []) ∷ [] ≡ 8 ∷ 128 ∷ []
@@ -32,6 +32,6 @@ pub cells : map (λ w. cells_at w 7 (4 ∷ 5 ∷ [])) (Known 1 ∷ FreshPage ∷
 cells = refl
 
 -- two full tags of three; none are counted of tags that are not those of three buckets
-pub counts : full_tags 3 (0x85 ∷ 0x7_f ∷ 0x80 ∷ replicate 4093 0) ∷ full_tags 3 (0x85 ∷ 0x7_f ∷ 0x80 ∷ []) ∷ [] ≡ 2 ∷ 0 ∷ []
+pub counts : full_tags 3 (0x85 ∷ 0x7F ∷ 0x80 ∷ replicate 4093 0) ∷ full_tags 3 (0x85 ∷ 0x7F ∷ 0x80 ∷ []) ∷ [] ≡ 2 ∷ 0 ∷ []
 unfolding tags.count_of
 counts = refl

@@ -36,7 +36,7 @@ abbrev audit : ℕ → ℕ → ℕ → Audit
 audit n o bits = record { capacity = n; occupied = o; rate = Ieee.of_bits binary64 bits }
 
 -- 1 for the count and for the length, 2, 20, 22, and a table with no full bucket: its rate is 0.0
-pub audits : audit_answer (one 0 0) 0 [] ∷ audit_answer (one 0 0) 2 (0 ∷ 0 ∷ []) ∷ audit_answer (one 0 0) 1 [] ∷ audit_answer (one 0x81 0x01) 1 (0 ∷ []) ∷ audit_answer (one 0x81 0) 1 (0 ∷ []) ∷ audit_answer (one 0x7_f 0) 1 (0 ∷ []) ∷ []
+pub audits : audit_answer (one 0 0) 0 [] ∷ audit_answer (one 0 0) 2 (0 ∷ 0 ∷ []) ∷ audit_answer (one 0 0) 1 [] ∷ audit_answer (one 0x81 0x01) 1 (0 ∷ []) ∷ audit_answer (one 0x81 0) 1 (0 ∷ []) ∷ audit_answer (one 0x7F 0) 1 (0 ∷ []) ∷ []
     ≡ refused 1 ∷ refused 1 ∷ refused 2 ∷ refused 20 ∷ refused 22 ∷ given (audit 1 0 0) ∷ []
 unfolding audit_answer Ieee.div Ieee.of_int Ieee.of_bits
 audits = refl
@@ -65,7 +65,7 @@ unfolding visit labelled
 first_passes t =
     bucket_by (two 0x80 t) 2 0 0 refl refl refl ∙ reached-at (two 0x80 t) 2 0 0 (omega arith) 0 (omega arith) (λ j x y. absurd (omega arith)) refl
 
-half_full : audit_answer (two 0x80 0x00) 2 (0 ∷ 0 ∷ []) ≡ given (audit 2 1 0x3_fE0000000000000)
+half_full : audit_answer (two 0x80 0x00) 2 (0 ∷ 0 ∷ []) ≡ given (audit 2 1 0x3FE0000000000000)
 unfolding labelled all_zero count_of rate_of Ieee.div Ieee.of_int Ieee.of_bits
 half_full =
     audit-buckets (two 0x80 0x00) 2 (0 ∷ 0 ∷ []) refl refl refl
@@ -88,10 +88,10 @@ empty_first =
     ∙ empty-at (two 0x00 0x80) 2 0 1 (omega arith) 0 (omega arith) (λ j x y. absurd (omega arith)) (λ e. let z : ◌≡◌ {A = ℕ} 0 1 = e in omega arith) refl))
 
 -- bucket 2 of three, whose path is 0 1 0 0 1 0 for ever
-not_reached : audit_answer (three 0x7_f 0x7_f 0x80) 3 (0 ∷ 0 ∷ 0 ∷ []) ≡ refused 24
+not_reached : audit_answer (three 0x7F 0x7F 0x80) 3 (0 ∷ 0 ∷ 0 ∷ []) ≡ refused 24
 unfolding visit labelled all_zero
 not_reached =
-    let img = three 0x7_f 0x7_f 0x80 in
+    let img = three 0x7F 0x7F 0x80 in
     let hs : List ℕ = 0 ∷ 0 ∷ 0 ∷ [] in
     audit-buckets img 3 hs refl refl refl
     ∙ ap (λ (a : Answer (Unit {0})). and_then a (λ _. given (audit_of img 3)))
@@ -99,15 +99,15 @@ not_reached =
     (next_audited img 3 hs 1 (given tt) (next_audited img 3 hs 0 (given tt) (none_audited img 3 hs) refl) refl)
     (bucket_by img 3 0 2 refl refl refl ∙ never-at img 3 0 2 (omega arith) passed))
   where
-    passed : (j : ℕ) → 0 ≤ j → j < 3 → stops_reach (three 0x7_f 0x7_f 0x80) 2 (visit 3 0 j) ≡ false
+    passed : (j : ℕ) → 0 ≤ j → j < 3 → stops_reach (three 0x7F 0x7F 0x80) 2 (visit 3 0 j) ≡ false
     passed zero x y = refl
     passed (suc zero) x y = refl
     passed (suc (suc zero)) x y = refl
     passed (suc (suc (suc j))) x y = absurd (omega arith)
 
 -- buckets that pass, and 21, 23, 24: half of two buckets full is 0.5
-pub bucket_audits : audit_answer (two 0x80 0x00) 2 (0 ∷ 0 ∷ []) ∷ audit_answer (two 0x80 0x80) 2 (0 ∷ 1 ∷ []) ∷ audit_answer (two 0x00 0x80) 2 (0 ∷ 0 ∷ []) ∷ audit_answer (three 0x7_f 0x7_f 0x80) 3 (0 ∷ 0 ∷ 0 ∷ []) ∷ []
-    ≡ given (audit 2 1 0x3_fE0000000000000) ∷ refused 21 ∷ refused 23 ∷ refused 24 ∷ []
+pub bucket_audits : audit_answer (two 0x80 0x00) 2 (0 ∷ 0 ∷ []) ∷ audit_answer (two 0x80 0x80) 2 (0 ∷ 1 ∷ []) ∷ audit_answer (two 0x00 0x80) 2 (0 ∷ 0 ∷ []) ∷ audit_answer (three 0x7F 0x7F 0x80) 3 (0 ∷ 0 ∷ 0 ∷ []) ∷ []
+    ≡ given (audit 2 1 0x3FE0000000000000) ∷ refused 21 ∷ refused 23 ∷ refused 24 ∷ []
 bucket_audits = four half_full label_twice empty_first not_reached
   where
     four : {a b c d x y z w : Answer Audit} → a ≡ x → b ≡ y → c ≡ z → d ≡ w → a ∷ b ∷ c ∷ d ∷ [] ≡ x ∷ y ∷ z ∷ w ∷ []
@@ -118,6 +118,6 @@ pub visits_made : map audit_visits (1 ∷ 50000 ∷ 60000 ∷ []) ≡ 100000 ∷
 visits_made = refl
 
 -- each case of the code's answer
-pub said : map audited_said (audited.Passed (audit 2 1 0x3_fE0000000000000) ∷ audited.Refused PaddingUsed ∷ audited.Refused LabelTwice ∷ audited.Refused TagWrong ∷ audited.Refused EmptyFirst ∷ audited.Refused NotReached ∷ [])
-    ≡ given (audit 2 1 0x3_fE0000000000000) ∷ refused 20 ∷ refused 21 ∷ refused 22 ∷ refused 23 ∷ refused 24 ∷ []
+pub said : map audited_said (audited.Passed (audit 2 1 0x3FE0000000000000) ∷ audited.Refused PaddingUsed ∷ audited.Refused LabelTwice ∷ audited.Refused TagWrong ∷ audited.Refused EmptyFirst ∷ audited.Refused NotReached ∷ [])
+    ≡ given (audit 2 1 0x3FE0000000000000) ∷ refused 20 ∷ refused 21 ∷ refused 22 ∷ refused 23 ∷ refused 24 ∷ []
 said = refl

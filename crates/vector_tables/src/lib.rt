@@ -83,14 +83,14 @@ fn hash_at(i: usize) -> u64 {
         2 => 5,
         3 => 144115188075855872,
         4 => 144115188075855875,
-        _ => 0x_fFFF_FFFF_FFFF_FFFF,
+        _ => 0xFFFF_FFFF_FFFF_FFFF,
     }
 }
 
 fn tag_at(i: usize) -> u8 {
     match i {
         0 => 0x00,
-        1 => 0x7_f,
+        1 => 0x7F,
         2 => 0x01,
         3 => 0x80,
         _ => 0x81,
@@ -188,7 +188,7 @@ fn visit_at(i: usize) -> u64 {
     if i < 10 {
         return i as u64;
     }
-    0x_fFFF_FFFF_FFFF_FFFF
+    0xFFFF_FFFF_FFFF_FFFF
 }
 
 fn power(b: usize) -> usize
@@ -202,14 +202,14 @@ fn power(b: usize) -> usize
     }
 }
 
-// A page ends in 32 bytes 0x_aB where the pattern has its bit; else one of these is 0x_aA.
+// A page ends in 32 bytes 0xAB where the pattern has its bit; else one of these is 0xAA.
 fn set_page(image: &mut [u8], page: usize, pattern: usize)
     requires { (page ≤ 3) × (pattern ≤ 16) }
 {
     let end = 8160 + 4096 * page;
-    blocks::put_32(image, end, id_of(0x_aB));
+    blocks::put_32(image, end, id_of(0xAB));
     if pattern / power(page) % 2 == 0 {
-        put(image, end + (7 * page + pattern) % 32, 0x_aA);
+        put(image, end + (7 * page + pattern) % 32, 0xAA);
     }
 }
 
@@ -226,7 +226,7 @@ fn looked_up(image: &mut [u8], n: usize, hash: u64, pattern: usize) -> u64
     requires { (n ≤ 4) × (pattern ≤ 16) }
 {
     set_pages(image, pattern);
-    found_code(of_found(probe::lookup(part(image, 4096 * (1 + n)), n, hash, id_of(0x_aB))))
+    found_code(of_found(probe::lookup(part(image, 4096 * (1 + n)), n, hash, id_of(0xAB))))
 }
 
 fn tried(kind: u64, image: &mut [u8], n: usize, hash: u64, way: usize) -> u64

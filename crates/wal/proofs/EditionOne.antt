@@ -53,18 +53,18 @@ pub same_room : (log : List ℕ) (pos : ℕ) (ws : List ℕ) (held : ℕ)
 unfolding clear_answer update_answer finish_answer
 same_room log pos ws held = (refl, refl, refl)
 
--- a log that does not begin with 0x_b2 is read as 01 reads it
-pub same_log : (log : List ℕ) → (get_or log 0 0 ≡ 0x_b2 → ⊥) → (start_of log ≡ start_in One log) × ((rule : AfterEnd) → read_log rule log ≡ read_after_start rule One log)
+-- a log that does not begin with 0xB2 is read as 01 reads it
+pub same_log : (log : List ℕ) → (get_or log 0 0 ≡ 0xB2 → ⊥) → (start_of log ≡ start_in One log) × ((rule : AfterEnd) → read_log rule log ≡ read_after_start rule One log)
 same_log log n =
-    let one : edition_at log ≡ One = ap (λ (b : Bool). cond b Two One) (ne_eqb (get_or log 0 0) 0x_b2 n) in
+    let one : edition_at log ≡ One = ap (λ (b : Bool). cond b Two One) (ne_eqb (get_or log 0 0) 0xB2 n) in
     (ap (λ ed. start_in ed log) one, λ rule. ap (λ ed. read_after_start rule ed log) one)
 
--- "An edition one reader meets 0x_b2 and answers 7, never entries": whatever the log holds, its pages whole
-some_byte : (log : List ℕ) → get_or log 0 0 ≡ 0x_b2 → length log ≡ 0 → ⊥
+-- "An edition one reader meets 0xB2 and answers 7, never entries": whatever the log holds, its pages whole
+some_byte : (log : List ℕ) → get_or log 0 0 ≡ 0xB2 → length log ≡ 0 → ⊥
 some_byte [] e z = omega arith
 some_byte (b ∷ bs) e z = omega arith
 
-pub old_reader_refuses : (log : List ℕ) → get_or log 0 0 ≡ 0x_b2 → length log % 4096 ≡ 0 → start_in One log ≡ refused 7
+pub old_reader_refuses : (log : List ℕ) → get_or log 0 0 ≡ 0xB2 → length log % 4096 ≡ 0 → start_in One log ≡ refused 7
 unfolding start_in
 old_reader_refuses log e pages =
     ap (λ (t : Bool). cond t (cond (eqb (length log) 0) (refused 6) (cond (eqb (get_or log 0 0) 1) (given (le (block 4 log 1))) (refused 7))) (refused 5)) (eq-eqb (length log % 4096) 0 pages)

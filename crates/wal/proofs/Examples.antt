@@ -105,12 +105,12 @@ seed = 10 ∷ 11 ∷ 12 ∷ 13 ∷ 14 ∷ 15 ∷ 16 ∷ 17 ∷ 18 ∷ 19 ∷ 20 
 abbrev pub one_slot : Entry
 one_slot = update (replicate 32 1) (1 ∷ 0 ∷ []) (replicate 32 2 ∷ []) (replicate 8 4) 9
 
--- "0x_b2 and then the tag of edition one. After the start mark come the sync number and the store's 16 seed bytes (22 bytes in all); other
+-- "0xB2 and then the tag of edition one. After the start mark come the sync number and the store's 16 seed bytes (22 bytes in all); other
 -- records are as before, end is the mark alone, then zeros"
 pub records_two : start_record (edition_two 0x04030201 seed) ∷ record_of Two (clear 0x0807060504030201) ∷ record_of Two one_slot ∷ end_record Two 4000 ∷ end_record Two 4094 ∷ []
-    ≡ (0x_b2 ∷ 1 ∷ 1 ∷ 2 ∷ 3 ∷ 4 ∷ seed) ∷ (0x_b2 ∷ 3 ∷ 1 ∷ 2 ∷ 3 ∷ 4 ∷ 5 ∷ 6 ∷ 7 ∷ 8 ∷ [])
-    ∷ (0x_b2 ∷ 4 ∷ (replicate 32 1 ++ (1 ∷ (replicate 15 0 ++ (replicate 32 2 ++ (replicate 8 4 ++ (9 ∷ replicate 7 0)))))))
-    ∷ (0x_b2 ∷ 2 ∷ replicate 94 0) ∷ (0x_b2 ∷ 2 ∷ []) ∷ []
+    ≡ (0xB2 ∷ 1 ∷ 1 ∷ 2 ∷ 3 ∷ 4 ∷ seed) ∷ (0xB2 ∷ 3 ∷ 1 ∷ 2 ∷ 3 ∷ 4 ∷ 5 ∷ 6 ∷ 7 ∷ 8 ∷ [])
+    ∷ (0xB2 ∷ 4 ∷ (replicate 32 1 ++ (1 ∷ (replicate 15 0 ++ (replicate 32 2 ++ (replicate 8 4 ++ (9 ∷ replicate 7 0)))))))
+    ∷ (0xB2 ∷ 2 ∷ replicate 94 0) ∷ (0xB2 ∷ 2 ∷ []) ∷ []
 unfolding record_of flat
 records_two = refl
 
@@ -121,20 +121,20 @@ sizes_two = refl
 
 -- a log of edition two: a clear of bucket 3 at 22, the end at 32
 abbrev pub log_two_lem : List ℕ
-log_two_lem = 0x_b2 ∷ 1 ∷ 7 ∷ 0 ∷ 0 ∷ 0 ∷ (seed ++ (0x_b2 ∷ 3 ∷ 3 ∷ 0 ∷ 0 ∷ 0 ∷ 0 ∷ 0 ∷ 0 ∷ 0 ∷ 0x_b2 ∷ 2 ∷ replicate 4062 0))
+log_two_lem = 0xB2 ∷ 1 ∷ 7 ∷ 0 ∷ 0 ∷ 0 ∷ (seed ++ (0xB2 ∷ 3 ∷ 3 ∷ 0 ∷ 0 ∷ 0 ∷ 0 ∷ 0 ∷ 0 ∷ 0 ∷ 0xB2 ∷ 2 ∷ replicate 4062 0))
 
 pub log_two_bytes : log_of (edition_two 7 seed) (clear 3 ∷ []) ≡ log_two_lem
 unfolding records_of record_of flat
 log_two_bytes = refl
 
--- "The first byte tells: 1 or 0x_b2; a 0x_b2 not followed by 1 is 7"; the reader of edition one answers 7 on a log of edition two
-pub starts_two : (start_of log_two_lem ∷ start_of (0x_b2 ∷ 2 ∷ replicate 4094 0) ∷ start_in One log_two_lem ∷ start_in Two log ∷ [] ≡ given 7 ∷ refused 7 ∷ refused 7 ∷ refused 7 ∷ [])
+-- "The first byte tells: 1 or 0xB2; a 0xB2 not followed by 1 is 7"; the reader of edition one answers 7 on a log of edition two
+pub starts_two : (start_of log_two_lem ∷ start_of (0xB2 ∷ 2 ∷ replicate 4094 0) ∷ start_in One log_two_lem ∷ start_in Two log ∷ [] ≡ given 7 ∷ refused 7 ∷ refused 7 ∷ refused 7 ∷ [])
     × (edition_at log_two_lem ∷ edition_at log ∷ [] ≡ Two ∷ One ∷ []) × (seed_of log_two_lem ≡ seed)
 unfolding start_in seed_of block
 starts_two = (refl, refl, refl)
 
--- an entry, the end; a bare tag and a start mark later are 8; at the last byte 0x_b2 is 6 and any other 8; nothing left is 6
-pub nexts_two : map (next_at Two log_two_lem) (22 ∷ 32 ∷ 0 ∷ 23 ∷ 4095 ∷ 4096 ∷ []) ∷ map (λ l. next_at Two l 0) ((0x_b2 ∷ []) ∷ (3 ∷ []) ∷ (0x_b2 ∷ 5 ∷ []) ∷ (2 ∷ 2 ∷ []) ∷ take 9 (0x_b2 ∷ 3 ∷ replicate 8 0) ∷ []) ∷ []
+-- an entry, the end; a bare tag and a start mark later are 8; at the last byte 0xB2 is 6 and any other 8; nothing left is 6
+pub nexts_two : map (next_at Two log_two_lem) (22 ∷ 32 ∷ 0 ∷ 23 ∷ 4095 ∷ 4096 ∷ []) ∷ map (λ l. next_at Two l 0) ((0xB2 ∷ []) ∷ (3 ∷ []) ∷ (0xB2 ∷ 5 ∷ []) ∷ (2 ∷ 2 ∷ []) ∷ take 9 (0xB2 ∷ 3 ∷ replicate 8 0) ∷ []) ∷ []
     ≡ (next (clear 3) 32 ∷ ended ∷ stopped 8 ∷ stopped 8 ∷ stopped 8 ∷ stopped 6 ∷ []) ∷ (stopped 6 ∷ stopped 8 ∷ stopped 8 ∷ stopped 8 ∷ stopped 6 ∷ []) ∷ []
 unfolding next_at block marked slots_below
 nexts_two = refl

@@ -46,12 +46,12 @@ mark_in One s pre t post f g e =
     let long : length s ≡ length pre + length (t ∷ post) = ap length e ∙ length-append pre (t ∷ post) in
     ap (λ (b : Bool). cond b (f (get_or s (length pre) 0)) (g 6)) (le-leb (length pre + 1) (length s) (omega arith)) ∙ ap f (byte_in s (length pre) pre t post e refl)
 mark_in {A = A} Two s pre t post f g e =
-    let long : length s ≡ length pre + length (0x_b2 ∷ t ∷ post) = ap length e ∙ length-append pre (0x_b2 ∷ t ∷ post) in
-    let first : get_or s (length pre) 0 ≡ 0x_b2 = byte_in s (length pre) pre 0x_b2 (t ∷ post) e refl in
-    let second : get_or s (length pre + 1) 0 ≡ t = byte_in s (length pre + 1) (pre ++ (0x_b2 ∷ [])) t post (e ∙ sym (append_assoc pre (0x_b2 ∷ []) (t ∷ post))) (sym (length-append pre (0x_b2 ∷ []))) in
+    let long : length s ≡ length pre + length (0xB2 ∷ t ∷ post) = ap length e ∙ length-append pre (0xB2 ∷ t ∷ post) in
+    let first : get_or s (length pre) 0 ≡ 0xB2 = byte_in s (length pre) pre 0xB2 (t ∷ post) e refl in
+    let second : get_or s (length pre + 1) 0 ≡ t = byte_in s (length pre + 1) (pre ++ (0xB2 ∷ [])) t post (e ∙ sym (append_assoc pre (0xB2 ∷ []) (t ∷ post))) (sym (length-append pre (0xB2 ∷ []))) in
     let found : A = cond (leb (length pre + 2) (length s)) (f (get_or s (length pre + 1) 0)) (g 6) in
-    ap (λ (b : Bool). cond b (cond (eqb (get_or s (length pre) 0) 0x_b2) found (g 8)) (g 6)) (le-leb (length pre + 1) (length s) (omega arith))
-    ∙ ap (λ (n : ℕ). cond (eqb n 0x_b2) found (g 8)) first
+    ap (λ (b : Bool). cond b (cond (eqb (get_or s (length pre) 0) 0xB2) found (g 8)) (g 6)) (le-leb (length pre + 1) (length s) (omega arith))
+    ∙ ap (λ (n : ℕ). cond (eqb n 0xB2) found (g 8)) first
     ∙ ap (λ (b : Bool). cond b (f (get_or s (length pre + 1) 0)) (g 6)) (le-leb (length pre + 2) (length s) (omega arith))
     ∙ ap f second
 

@@ -11,10 +11,10 @@ pub data Entry : Type 0 where
   clear : ℕ → Entry
   update : List ℕ → List ℕ → List (List ℕ) → List ℕ → ℕ → Entry
 
--- what stands before each record and tells its kind: its tag; in edition two "a two-byte mark [..]: 0x_b2 and then the tag of edition one"
+-- what stands before each record and tells its kind: its tag; in edition two "a two-byte mark [..]: 0xB2 and then the tag of edition one"
 abbrev pub mark : Edition → ℕ → List ℕ
 mark One tag = tag ∷ []
-mark Two tag = 0x_b2 ∷ tag ∷ []
+mark Two tag = 0xB2 ∷ tag ∷ []
 
 abbrev pub mark_size : Edition → ℕ
 mark_size One = 1

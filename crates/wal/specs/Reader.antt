@@ -10,16 +10,16 @@ use Rattle.wal.specs.declared.AfterEnd.TheVariants.{Zeros, Tolerant}
 use Rattle.wal.specs.declared.Edition.{Edition}
 use Rattle.wal.specs.declared.Edition.TheVariants.{One, Two}
 
--- "The first byte tells: 1 or 0x_b2"
+-- "The first byte tells: 1 or 0xB2"
 abbrev pub edition_at : List ℕ → Edition
-edition_at log = cond (eqb (get_or log 0 0) 0x_b2) Two One
+edition_at log = cond (eqb (get_or log 0 0) 0xB2) Two One
 
 -- the mark of a tag stands at a position
 abbrev pub marks_at : Edition → List ℕ → ℕ → ℕ → Bool
 marks_at One log at tag = eqb (get_or log at 0) tag
-marks_at Two log at tag = eqb (get_or log at 0) 0x_b2 && eqb (get_or log (at + 1) 0) tag
+marks_at Two log at tag = eqb (get_or log at 0) 0xB2 && eqb (get_or log (at + 1) 0) tag
 
--- "Setting it reads the start and gives the sync number"; "The reader when set: 5, then 6 for an empty log, 7"; "a 0x_b2 not followed by 1 is 7"
+-- "Setting it reads the start and gives the sync number"; "The reader when set: 5, then 6 for an empty log, 7"; "a 0xB2 not followed by 1 is 7"
 unfoldable pub start_in : Edition → List ℕ → Answer ℕ
 start_in ed log =
     cond (eqb (length log % 4096) 0)
@@ -74,13 +74,13 @@ update_at log p =
 abbrev pub by_tag : ℕ → List ℕ → ℕ → Next
 by_tag t log p = cond (eqb t 2) ended (cond (eqb t 3) (clear_at log p) (cond (eqb t 4) (update_at log p) (stopped 8)))
 
--- by the tag of the mark at a position; "log ends .. before end": 6. In edition two "for a mark whose first byte isn't 0x_b2 the number is 8,
--- at the log's last byte too; a 0x_b2 as the last byte there is 6"
+-- by the tag of the mark at a position; "log ends .. before end": 6. In edition two "for a mark whose first byte isn't 0xB2 the number is 8,
+-- at the log's last byte too; a 0xB2 as the last byte there is 6"
 abbrev pub by_mark : {A : Type 0} → Edition → List ℕ → ℕ → (ℕ → A) → (ℕ → A) → A
 by_mark One log at tagged none = cond (leb (at + 1) (length log)) (tagged (get_or log at 0)) (none 6)
 by_mark Two log at tagged none =
     cond (leb (at + 1) (length log))
-    (cond (eqb (get_or log at 0) 0x_b2) (cond (leb (at + 2) (length log)) (tagged (get_or log (at + 1) 0)) (none 6)) (none 8))
+    (cond (eqb (get_or log at 0) 0xB2) (cond (leb (at + 2) (length log)) (tagged (get_or log (at + 1) 0)) (none 6)) (none 8))
     (none 6)
 
 -- that tag, or the refusal

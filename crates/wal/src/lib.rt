@@ -12,7 +12,7 @@ pub const WAL_ENTRY_TAG_CLEAR: u8 = 3;
 pub const WAL_ENTRY_TAG_UPDATE: u8 = 4;
 
 // What stands before each tag in a log of edition two.
-pub const WAL_EDITION_TWO: u8 = 0x_b2;
+pub const WAL_EDITION_TWO: u8 = 0xB2;
 
 pub const PAGE_SIZE: usize = 4096;
 
@@ -30,7 +30,7 @@ pub const NODES_AT: usize = 48;
 // Where the start of a log of edition two has the seed of its store.
 pub const SEED_AT: usize = 6;
 
-// The edition of a log: one, in which a record's mark is its tag; or two, with 0x_b2 before each tag and the
+// The edition of a log: one, in which a record's mark is its tag; or two, with 0xB2 before each tag and the
 // store named in the start.
 #[derive(Drop)]
 pub enum Edition {

@@ -34,13 +34,13 @@ unfolding block digit marked slots_below flat record_of records_of start_in next
 listed_two = refl
 
 -- no log; one byte more than 65,536; 5, 7; an unknown tag and a cut record, each at its offset
-pub texts : map lines_of ([] ∷ replicate 65537 1 ∷ (1 ∷ []) ∷ replicate 4096 2 ∷ (1 ∷ replicate 4095 0) ∷ (1 ∷ 7 ∷ 0 ∷ 0 ∷ 0 ∷ (3 ∷ 4 ∷ replicate 7 0) ++ (4 ∷ (replicate 32 0 ++ (replicate 15 0x_fF ++ (0x3_f ∷ replicate 4033 0))))) ∷ [])
+pub texts : map lines_of ([] ∷ replicate 65537 1 ∷ (1 ∷ []) ∷ replicate 4096 2 ∷ (1 ∷ replicate 4095 0) ∷ (1 ∷ 7 ∷ 0 ∷ 0 ∷ 0 ∷ (3 ∷ 4 ∷ replicate 7 0) ++ (4 ∷ (replicate 32 0 ++ (replicate 15 0xFF ++ (0x3F ∷ replicate 4033 0))))) ∷ [])
     ≡ ascii "empty\n" ∷ ascii "0 refused 2\n" ∷ ascii "0 refused 5\n" ∷ ascii "0 refused 7\n" ∷ ascii "0 start 0\n5 refused 8\n" ∷ ascii "0 start 7\n5 clear 4\n14 refused 6\n" ∷ []
 unfolding lines_of start_in read_by next_at block marked slots_below digits_in entry_lines
 texts = refl
 
--- edition two: a clear and the end; a bare tag where a mark should be; "a 0x_b2 not followed by 1 is 7"
-pub texts_two : map lines_of (log_two_lem ∷ (take 22 log_two_lem ++ (3 ∷ replicate 4073 0)) ∷ (0x_b2 ∷ 2 ∷ replicate 4094 0) ∷ []) ≡ ascii "0 start 7\n22 clear 3\n32 end\n" ∷ ascii "0 start 7\n22 refused 8\n" ∷ ascii "0 refused 7\n" ∷ []
+-- edition two: a clear and the end; a bare tag where a mark should be; "a 0xB2 not followed by 1 is 7"
+pub texts_two : map lines_of (log_two_lem ∷ (take 22 log_two_lem ++ (3 ∷ replicate 4073 0)) ∷ (0xB2 ∷ 2 ∷ replicate 4094 0) ∷ []) ≡ ascii "0 start 7\n22 clear 3\n32 end\n" ∷ ascii "0 start 7\n22 refused 8\n" ∷ ascii "0 refused 7\n" ∷ []
 unfolding lines_of start_in read_by next_at block marked slots_below digits_in entry_lines
 texts_two = refl
 
@@ -49,8 +49,8 @@ pub labelled : map lines_of (set log_two_lem 34 76 ∷ (1 ∷ 7 ∷ 0 ∷ 0 ∷ 
 unfolding lines_of start_in read_by next_at block marked slots_below digits_in entry_lines
 labelled = refl
 
--- its lines one by one; at the log's last byte 0x_b2 is 6, and any other byte 8
-pub shown_two : map (shown_at log_two_lem) (0 ∷ 22 ∷ 32 ∷ 4095 ∷ []) ++ (shown_at (take 4095 log_two_lem ++ (0x_b2 ∷ [])) 4095 ∷ [])
+-- its lines one by one; at the log's last byte 0xB2 is 6, and any other byte 8
+pub shown_two : map (shown_at log_two_lem) (0 ∷ 22 ∷ 32 ∷ 4095 ∷ []) ++ (shown_at (take 4095 log_two_lem ++ (0xB2 ∷ [])) 4095 ∷ [])
     ≡ more (ascii "0 start 7\n") 22 ∷ more (ascii "22 clear 3\n") 32 ∷ last (ascii "32 end\n") ∷ last (ascii "4095 refused 8\n") ∷ last (ascii "4095 refused 6\n") ∷ []
 unfolding first_shown start_in next_at block marked slots_below digits_in
 shown_two = refl

@@ -82,8 +82,8 @@ pub said : (map head_said (head.Clear 3 14 ∷ head.Update 9 2 143 ∷ head.End 
     × (map what_said (what.Clear 3 ∷ what.Update 9 ∷ what.End ∷ what.Refused LogCut ∷ what.Refused AfterEndUsed ∷ []) ≡ clears 3 ∷ updates 9 ∷ ends ∷ refuses 6 ∷ refuses 27 ∷ [])
 said = (refl, refl)
 
--- of a log of edition two: the clear at 22, the end at 32; a start later, a bare tag and 0x_b2 with no known tag are 8; 0x_b2 as the last byte is 6
-pub heads_two : map (λ p. head_of (next_at Two log_two_lem p)) (22 ∷ 32 ∷ 0 ∷ 23 ∷ []) ∷ map (λ l. head_of (next_at Two l 0)) ((0x_b2 ∷ 9 ∷ []) ∷ (0x_b2 ∷ []) ∷ (4 ∷ []) ∷ []) ∷ []
+-- of a log of edition two: the clear at 22, the end at 32; a start later, a bare tag and 0xB2 with no known tag are 8; 0xB2 as the last byte is 6
+pub heads_two : map (λ p. head_of (next_at Two log_two_lem p)) (22 ∷ 32 ∷ 0 ∷ 23 ∷ []) ∷ map (λ l. head_of (next_at Two l 0)) ((0xB2 ∷ 9 ∷ []) ∷ (0xB2 ∷ []) ∷ (4 ∷ []) ∷ []) ∷ []
     ≡ (a_clear 3 32 ∷ the_end ∷ a_refusal 8 ∷ a_refusal 8 ∷ []) ∷ (a_refusal 8 ∷ a_refusal 6 ∷ a_refusal 8 ∷ []) ∷ []
 unfolding next_at block marked slots_below
 heads_two = refl

@@ -16,12 +16,12 @@ use Rattle.wal.specs.Reader.{next, stopped, edition_at, marks_at, start_in, star
 use Rattle.wal.specs.declared.Edition.{Edition}
 use Rattle.wal.specs.declared.Edition.TheVariants.{One, Two}
 
--- ---- the edition: "The first byte tells: 1 or 0x_b2"
-pub edition_two_lem : (log : List ℕ) → get_or log 0 0 ≡ 0x_b2 → edition_at log ≡ Two
-edition_two_lem log e = ap (λ (b : Bool). cond b Two One) (eq-eqb (get_or log 0 0) 0x_b2 e)
+-- ---- the edition: "The first byte tells: 1 or 0xB2"
+pub edition_two_lem : (log : List ℕ) → get_or log 0 0 ≡ 0xB2 → edition_at log ≡ Two
+edition_two_lem log e = ap (λ (b : Bool). cond b Two One) (eq-eqb (get_or log 0 0) 0xB2 e)
 
-pub edition-one : (log : List ℕ) → (get_or log 0 0 ≡ 0x_b2 → ⊥) → edition_at log ≡ One
-edition-one log n = ap (λ (b : Bool). cond b Two One) (ne_eqb (get_or log 0 0) 0x_b2 n)
+pub edition-one : (log : List ℕ) → (get_or log 0 0 ≡ 0xB2 → ⊥) → edition_at log ≡ One
+edition-one log n = ap (λ (b : Bool). cond b Two One) (ne_eqb (get_or log 0 0) 0xB2 n)
 
 pub edition_none : (log : List ℕ) → length log ≤ 0 → edition_at log ≡ One
 edition_none [] h = refl
@@ -39,12 +39,12 @@ module _ (log : List ℕ) where
 
   -- where the first byte tells the edition, the tag before the sync number tells the start
   starts : marks_at (edition_at log) log 0 1 ≡ eqb (get_or log (mark_size (edition_at log) - 1) 0) 1
-  starts = go (eqb (get_or log 0 0) 0x_b2) refl
+  starts = go (eqb (get_or log 0 0) 0xB2) refl
     where
       edition : Bool → Edition
       edition b = cond b Two One
 
-      go : (b : Bool) → eqb (get_or log 0 0) 0x_b2 ≡ b → marks_at (edition_at log) log 0 1 ≡ eqb (get_or log (mark_size (edition_at log) - 1) 0) 1
+      go : (b : Bool) → eqb (get_or log 0 0) 0xB2 ≡ b → marks_at (edition_at log) log 0 1 ≡ eqb (get_or log (mark_size (edition_at log) - 1) 0) 1
       go true e =
           ap (λ (b : Bool). marks_at (edition b) log 0 1) e ∙ ap (λ (b : Bool). b && eqb (get_or log 1 0) 1) e
           ∙ sym (ap (λ (b : Bool). eqb (get_or log (mark_size (edition b) - 1) 0) 1) e)
@@ -79,7 +79,7 @@ mark_answer {A = A} One log at f g = go (leb (at + 1) (length log))
     go : (a : Bool) → cond a (f (get_or log at 0)) (g 6) ≡ by_answer f g (cond a (given (get_or log at 0)) (refused 6))
     go true = refl
     go false = refl
-mark_answer {A = A} Two log at f g = go (leb (at + 1) (length log)) (eqb (get_or log at 0) 0x_b2) (leb (at + 2) (length log))
+mark_answer {A = A} Two log at f g = go (leb (at + 1) (length log)) (eqb (get_or log at 0) 0xB2) (leb (at + 2) (length log))
   where
     go : (a b c : Bool) → cond a (cond b (cond c (f (get_or log (at + 1) 0)) (g 6)) (g 8)) (g 6) ≡ by_answer f g (cond a (cond b (cond c (given (get_or log (at + 1) 0)) (refused 6)) (refused 8)) (refused 6))
     go true true true = refl
@@ -94,7 +94,7 @@ mark_within One log at t h = go (leb (at + 1) (length log)) refl h
     go : (a : Bool) → leb (at + 1) (length log) ≡ a → cond a (given (get_or log at 0)) (refused 6) ≡ given t → at + 1 ≤ length log
     go true e h = leb-true (at + 1) (length log) e
     go false e h = absurd (given-refused t 6 (sym h))
-mark_within Two log at t h = go (leb (at + 1) (length log)) (eqb (get_or log at 0) 0x_b2) (leb (at + 2) (length log)) refl h
+mark_within Two log at t h = go (leb (at + 1) (length log)) (eqb (get_or log at 0) 0xB2) (leb (at + 2) (length log)) refl h
   where
     go : (a b c : Bool) → leb (at + 2) (length log) ≡ c → cond a (cond b (cond c (given (get_or log (at + 1) 0)) (refused 6)) (refused 8)) (refused 6) ≡ given t → at + 2 ≤ length log
     go true true true e h = leb-true (at + 2) (length log) e
@@ -114,15 +114,15 @@ module _ (log : List ℕ) (at : ℕ) (here : at < length log) where
   pub tag_one : tag_at One log at ≡ given (get_or log at 0)
   tag_one = simp within
 
-  -- "For a mark whose first byte isn't 0x_b2 the number is 8, at the log's last byte too; a 0x_b2 as the last byte there is 6"
-  pub tag-bare : (get_or log at 0 ≡ 0x_b2 → ⊥) → tag_at Two log at ≡ refused 8
-  tag-bare n = simp (within, ne_eqb (get_or log at 0) 0x_b2 n)
+  -- "For a mark whose first byte isn't 0xB2 the number is 8, at the log's last byte too; a 0xB2 as the last byte there is 6"
+  pub tag-bare : (get_or log at 0 ≡ 0xB2 → ⊥) → tag_at Two log at ≡ refused 8
+  tag-bare n = simp (within, ne_eqb (get_or log at 0) 0xB2 n)
 
-  pub tag-cut : get_or log at 0 ≡ 0x_b2 → length log - at < 2 → tag_at Two log at ≡ refused 6
-  tag-cut e h = simp (within, eq-eqb (get_or log at 0) 0x_b2 e, lt-leb (at + 2) (length log) (omega arith))
+  pub tag-cut : get_or log at 0 ≡ 0xB2 → length log - at < 2 → tag_at Two log at ≡ refused 6
+  tag-cut e h = simp (within, eq-eqb (get_or log at 0) 0xB2 e, lt-leb (at + 2) (length log) (omega arith))
 
-  pub tag-two : get_or log at 0 ≡ 0x_b2 → 2 ≤ length log - at → tag_at Two log at ≡ given (get_or log (at + 1) 0)
-  tag-two e h = simp (within, eq-eqb (get_or log at 0) 0x_b2 e, le-leb (at + 2) (length log) (omega arith))
+  pub tag-two : get_or log at 0 ≡ 0xB2 → 2 ≤ length log - at → tag_at Two log at ≡ given (get_or log (at + 1) 0)
+  tag-two e h = simp (within, eq-eqb (get_or log at 0) 0xB2 e, le-leb (at + 2) (length log) (omega arith))
 
 -- ---- what stands after the mark of a tag, by the tests that find it
 module _ (log : List ℕ) (p : ℕ) where

@@ -118,8 +118,8 @@ second-gives rule log r after last d e set first second =
     (subst (λ (a : Answer ℕ). Taken (gives_at after.rule a log.now after.at) after.at e) (ap number_said first.start-stays ∙ set.start_is)
     (subst (λ (l : Bor (List ℕ)). Taken (gives_at after.rule (number_said after.start) l.now after.at) after.at e) (first.log-stays ∙ set.log_is) second.entry-is)))
 
--- "An edition one reader meets 0x_b2 and answers 7, never entries": so an old program refuses a new log, wherever it stands
-pub old_reader-gives : (rule : AfterEnd) (log : List ℕ) (at : ℕ) → get_or log 0 0 ≡ 0x_b2 → length log % 4096 ≡ 0 → gives_by rule One (start_in One log) log at ≡ stopped 7
+-- "An edition one reader meets 0xB2 and answers 7, never entries": so an old program refuses a new log, wherever it stands
+pub old_reader-gives : (rule : AfterEnd) (log : List ℕ) (at : ℕ) → get_or log 0 0 ≡ 0xB2 → length log % 4096 ≡ 0 → gives_by rule One (start_in One log) log at ≡ stopped 7
 old_reader-gives rule log at e pages = ap (λ (a : Answer ℕ). gives_by rule One a log at) (old_reader_refuses log e pages)
 
 -- ---- 02, W-208: "27, a byte after end not zero, from the reader in place of end"

@@ -60,7 +60,7 @@ pub struct WalEntry {
     pub next: usize,
 }
 
-// The edition that a log's first byte tells: two for 0x_b2, else one.
+// The edition that a log's first byte tells: two for 0xB2, else one.
 pub fn edition_of(log: &[u8]) -> Edition
     ensures { result ≡ edition_at log.now }
 {
@@ -105,7 +105,7 @@ fn diff_at(log: &[u8], body: usize) -> DiffAnswer
     page_diff::from_bytes(blocks::block_16(log, body + wal::DIFF_AT))
 }
 
-// The tag of the mark at `at`: 6 where the log ends before it, 8 in edition two where 0x_b2 is missing.
+// The tag of the mark at `at`: 6 where the log ends before it, 8 in edition two where 0xB2 is missing.
 fn tag_at(log: &[u8], at: usize, edition: Edition) -> Tag
     ensures { tag_said result ≡ tag_at edition log.now at }
 {

@@ -147,8 +147,8 @@ logs = refl
 
 -- a whole run of edition two: begin, a clear of bucket 3, the update of the page, finish; the byte past the log stays
 pub run_two : finish_log (page_update_log (clear_log (begin_log (slice 4097) (edition_two 7 seed)) (open_at Two 22) 3) (open_at Two 32) (replicate 32 1) (1 ∷ 0 ∷ []) page 9) (open_at Two 130)
-    ≡ 0x_b2 ∷ 1 ∷ 7 ∷ 0 ∷ 0 ∷ 0 ∷ (seed
-    ++ (0x_b2 ∷ 3 ∷ 3 ∷ (replicate 7 0
-    ++ (0x_b2 ∷ 4 ∷ (replicate 32 1 ++ (1 ∷ (replicate 15 0 ++ (replicate 32 2 ++ (replicate 8 4 ++ (9 ∷ (replicate 7 0 ++ (0x_b2 ∷ 2 ∷ (replicate 3964 0 ++ (6 ∷ []))))))))))))))
+    ≡ 0xB2 ∷ 1 ∷ 7 ∷ 0 ∷ 0 ∷ 0 ∷ (seed
+    ++ (0xB2 ∷ 3 ∷ 3 ∷ (replicate 7 0
+    ++ (0xB2 ∷ 4 ∷ (replicate 32 1 ++ (1 ∷ (replicate 15 0 ++ (replicate 32 2 ++ (replicate 8 4 ++ (9 ∷ (replicate 7 0 ++ (0xB2 ∷ 2 ∷ (replicate 3964 0 ++ (6 ∷ []))))))))))))))
 unfolding begin_answer clear_answer page_update_answer finish_answer marked slots_below put record_of flat block
 run_two = refl

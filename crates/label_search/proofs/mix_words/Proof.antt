@@ -34,7 +34,7 @@ returns c =
     let low = ap₂ bit_xor c.before.before.before.before.before.before.spread-word.ensures c.before.before.before.before.before.spread-word2.ensures in
     let high = ap₂ bit_xor c.before.before.before.before.spread-word3.ensures c.before.before.before.spread-word4.ensures in
     let first = c.before.before.fold_word.ensures ∙ ap folded (ap₂ bit_xor low high) in
-    c.fold-word2.ensures ∙ ap folded (c.before.spread-word5.ensures ∙ ap (λ (x : ℕ). spread x 0x_c2_b2_aE3_d 0x27_d4_eB2_f) first)
+    c.fold-word2.ensures ∙ ap folded (c.before.spread-word5.ensures ∙ ap (λ (x : ℕ). spread x 0xC2B2AE3D 0x27D4EB2F) first)
 
 pub mix-words-spec : {M : Type 1} → statement M
 mix-words-spec =

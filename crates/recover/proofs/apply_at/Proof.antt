@@ -165,8 +165,8 @@ returns-2 c =
     let taken = step-taken a.rule a.n a.image.now a.edition a.log.now a.at a.hash s.pre (clear b) t.before.head.given.0.1.0 (is-clear t) past.if1.false in (
       taken.0,
       ap (put_mid b (b + 1 - b) a.image.now) called.write-tag.ensures
-          ∙ part-put b (b + 1) a.image.now (0x7_f ∷ []) (omega arith) (omega arith) (omega arith)
-          ∙ set-put a.image.now b 0x7_f l ∙ clear_image a.n b a.hash a.image.now l ∙ taken.1,
+          ∙ part-put b (b + 1) a.image.now (0x7F ∷ []) (omega arith) (omega arith) (omega arith)
+          ∙ set-put a.image.now b 0x7F l ∙ clear_image a.n b a.hash a.image.now l ∙ taken.1,
     )
 
 enum-known-head-2 : tie.Need-enum-known-head-2

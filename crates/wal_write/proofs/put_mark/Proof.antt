@@ -1,4 +1,4 @@
--- By the edition: the tag alone, or 0x_b2 and the tag. Assumes nothing.
+-- By the edition: the tag alone, or 0xB2 and the tag. Assumes nothing.
 use Prim.Native.Nat.{◌+◌, ◌≤◌}
 use mathlib.Core.Path.{sym, ap, ◌∙◌}
 use native.Mathlib.Omega.{arith}
@@ -29,7 +29,7 @@ slice-write-log : tie.Need-slice-write-log
 slice-write-log c = omega (arith, two-fit c)
 
 slice-write-log-2 : tie.Need-slice-write-log-2
-slice-write-log-2 c = let args = c.before.before.args in omega (arith, two-fit c, length-set args.log.now args.at 0x_b2)
+slice-write-log-2 c = let args = c.before.before.args in omega (arith, two-fit c, length-set args.log.now args.at 0xB2)
 
 enum-told-2 : tie.Need-enum-told-2
 enum-told-2 c = search rules
@@ -43,7 +43,7 @@ same_length c = search rules
 returns : tie.Need-returns
 returns c =
     let args = c.before.before.args in
-    set_two args.log.now args.at 0x_b2 args.tag (two-fit c) ∙ ap (λ (e : Edition). put args.log.now args.at (mark e args.tag)) (sym c.enum_told.given.1)
+    set_two args.log.now args.at 0xB2 args.tag (two-fit c) ∙ ap (λ (e : Edition). put args.log.now args.at (mark e args.tag)) (sym c.enum_told.given.1)
 
 same-length-2 : tie.Need-same-length-2
 same-length-2 c = search rules
