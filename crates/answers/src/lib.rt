@@ -1,10 +1,12 @@
 // What a call answers: the refusals of document 01 by name, and the three shapes of answer that
 // several rooms share. docs/ANSWERS.md has a line for a person on each.
+#![tactic(auto)]
+
 ghost use Rattle.std.specs.Prelude.{◌≡◌};
 ghost use Rattle.answers.specs.Refusals.{number_of};
 
 // Why a call did not do what was asked. Each has document 01's number, by `number_of`.
-#[derive(Drop)]
+#[derive(Clone, Copy)]
 pub enum Refusal {
     TableUnfit,
     LengthUnfit,
@@ -35,21 +37,21 @@ pub enum Refusal {
 }
 
 // A call that has nothing to say but that it is done.
-#[derive(Drop)]
+#[derive(Clone, Copy)]
 pub enum Outcome {
     Done,
     Refused(Refusal),
 }
 
 // A call that answers a number.
-#[derive(Drop)]
+#[derive(Clone, Copy)]
 pub enum Number {
     Is(u64),
     Refused(Refusal),
 }
 
 // A call that answers whether something holds.
-#[derive(Drop)]
+#[derive(Clone, Copy)]
 pub enum Truth {
     Holds,
     Fails,

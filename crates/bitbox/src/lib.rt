@@ -2,6 +2,8 @@
 // proved crates. A slice is a pointer and then its length, an array a pointer; a diff is its two words,
 // low word first. An answer is a number or a small struct that begins with the refusal's number, 0 for
 // none. No call needs its caller to check anything but that the pointers and lengths are true.
+#![tactic(auto)]
+
 ghost use Rattle.std.specs.Prelude.{◌≡◌, not, ◌/◌, eqb};
 ghost use Rattle.answers.specs.Refusals.{number_of};
 ghost use Rattle.answers.specs.Answers.{given, outcome_said, number_said, truth_said};
@@ -37,7 +39,7 @@ use wal::{AfterEnd, Start, Writer};
 
 // 0, or the refusal's number; and a value, 0 where there is none.
 #[repr(C)]
-#[derive(Drop)]
+#[derive(Clone, Copy)]
 pub struct Answer {
     pub refusal: u64,
     pub value: u64,
@@ -45,7 +47,7 @@ pub struct Answer {
 
 // The same with a diff: of no mark where it is refused to read one, the lent one where to set one.
 #[repr(C)]
-#[derive(Drop)]
+#[derive(Clone, Copy)]
 pub struct DiffAnswer {
     pub refusal: u64,
     pub diff: Diff,
@@ -53,7 +55,7 @@ pub struct DiffAnswer {
 
 // The same with packed nodes: none where it is refused.
 #[repr(C)]
-#[derive(Drop)]
+#[derive(Clone, Copy)]
 pub struct PackAnswer {
     pub refusal: u64,
     pub packed: Packed,
@@ -61,7 +63,7 @@ pub struct PackAnswer {
 
 // What probing comes to: 0 empty, 1 tombstone, 2 hit, 3 closed; the bucket and its visit.
 #[repr(C)]
-#[derive(Drop)]
+#[derive(Clone, Copy)]
 pub struct Probed {
     pub refusal: u64,
     pub kind: u64,
@@ -71,7 +73,7 @@ pub struct Probed {
 
 // What lookup comes to: 0 found, 1 absent, 2 closed; the bucket.
 #[repr(C)]
-#[derive(Drop)]
+#[derive(Clone, Copy)]
 pub struct Found {
     pub refusal: u64,
     pub kind: u64,
@@ -81,7 +83,7 @@ pub struct Found {
 // An entry of a log: 0 end, 1 clear, 2 update; its bucket; where the next one stands; of an update its id,
 // diff, nodes and elided children.
 #[repr(C)]
-#[derive(Drop)]
+#[derive(Clone, Copy)]
 pub struct Entry {
     pub refusal: u64,
     pub kind: u64,
@@ -96,7 +98,7 @@ pub struct Entry {
 // An entry seen without its fields: 0 end, 1 clear, 2 update; its bucket; the count of its nodes; where the
 // next one stands.
 #[repr(C)]
-#[derive(Drop)]
+#[derive(Clone, Copy)]
 pub struct Head {
     pub refusal: u64,
     pub kind: u64,
@@ -108,7 +110,7 @@ pub struct Head {
 // What a log starts with: its sync number; its edition, where 2 is the second and any other number the first; and
 // the seed of its store, which edition one leaves out.
 #[repr(C)]
-#[derive(Drop)]
+#[derive(Clone, Copy)]
 pub struct LogStart {
     pub sync: u32,
     pub edition: u32,
@@ -118,7 +120,7 @@ pub struct LogStart {
 // A writer's state: 0 fresh, 1 open at a position of a log of edition one, 3 of edition two, any other finished
 // with a length.
 #[repr(C)]
-#[derive(Drop)]
+#[derive(Clone, Copy)]
 pub struct WriterState {
     pub kind: u64,
     pub at: u64,
@@ -126,7 +128,7 @@ pub struct WriterState {
 
 // What a writer's call comes to, and the state after it.
 #[repr(C)]
-#[derive(Drop)]
+#[derive(Clone, Copy)]
 pub struct Written {
     pub refusal: u64,
     pub length: u64,
@@ -135,7 +137,7 @@ pub struct Written {
 
 // The state of a sync that is made step by step.
 #[repr(C)]
-#[derive(Drop)]
+#[derive(Clone, Copy)]
 pub struct StepState {
     pub n: u64,
     pub writer: WriterState,
@@ -144,7 +146,7 @@ pub struct StepState {
 
 // What a step of a sync comes to: the bucket, the page's number, the state after it.
 #[repr(C)]
-#[derive(Drop)]
+#[derive(Clone, Copy)]
 pub struct StepAnswer {
     pub refusal: u64,
     pub bucket: u64,
@@ -155,7 +157,7 @@ pub struct StepAnswer {
 // What a sync comes to: full buckets and the log's length; or a refusal, at change `change` where
 // `at_change` is 1; and the writer after it.
 #[repr(C)]
-#[derive(Drop)]
+#[derive(Clone, Copy)]
 pub struct SyncAnswer {
     pub refusal: u64,
     pub at_change: u64,
@@ -167,7 +169,7 @@ pub struct SyncAnswer {
 
 // What a step of replay comes to: 0 end, 1 cleared, 2 updated; where the next entry stands.
 #[repr(C)]
-#[derive(Drop)]
+#[derive(Clone, Copy)]
 pub struct Stepped {
     pub refusal: u64,
     pub kind: u64,
@@ -176,7 +178,7 @@ pub struct Stepped {
 
 // The counts of a marker.
 #[repr(C)]
-#[derive(Drop)]
+#[derive(Clone, Copy)]
 pub struct Marker {
     pub refusal: u64,
     pub old: u64,
@@ -185,7 +187,7 @@ pub struct Marker {
 
 // The bytes of a marker: zeros where it is refused.
 #[repr(C)]
-#[derive(Drop)]
+#[derive(Clone, Copy)]
 pub struct MarkerBytes {
     pub refusal: u64,
     pub bytes: [u8; 16],
@@ -193,7 +195,7 @@ pub struct MarkerBytes {
 
 // What an audit comes to: buckets, full ones, and their rate.
 #[repr(C)]
-#[derive(Drop)]
+#[derive(Clone, Copy)]
 pub struct Audited {
     pub refusal: u64,
     pub capacity: u64,

@@ -1,6 +1,8 @@
 // Little-endian numbers and blocks of fixed width, out of a slice and into one: the original's
 // `read_buf`, `to_le_bytes` and `copy_from_slice`. Every call is total: past the slice's end zeros are
 // read and nothing is written. A block goes through an array by value, which compiles to wide moves.
+#![tactic(auto)]
+
 ghost use Rattle.std.specs.Prelude.{◌≡◌, ◌&&◌, ◌≤◌, length, drop, replicate};
 ghost use Rattle.blocks.specs.Blocks.{le, bytes_of, block, put, same_bytes, all_zero};
 

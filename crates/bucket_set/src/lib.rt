@@ -1,5 +1,7 @@
 // A set of bucket numbers as bits in lent words: number i is bit i % 64 of word i / 64. The words are the
 // caller's, most often in its frame.
+#![tactic(auto)]
+
 ghost use Rattle.std.specs.Prelude.{◌≡◌, length};
 ghost use Rattle.bucket_set.specs.Numbers.{holds_in, with_number, none_of};
 

@@ -1,5 +1,7 @@
 // Where things stand in a table image, as in the original's ht_file.rs: lengths and page numbers
 // only. The files themselves stay with the caller.
+#![tactic(auto)]
+
 ghost use Rattle.std.specs.Prelude.{◌≡◌, ◌&&◌};
 ghost use Rattle.answers.specs.Answers.{given, outcome_said, number_said};
 ghost use Rattle.ht_file.specs.Places.{count_allowed, within_limit, tag_pages, image_length, start_in, tags_fit, image_fits, if_table, if_count, page_of};

@@ -1,5 +1,7 @@
 // The search for a label that a table image has twice: by two passes over sets of bits, which rule out
 // nearly all labels, and a search for each that is left.
+#![tactic(auto)]
+
 ghost use Rattle.std.specs.Prelude.{◌≡◌, true, ◌+◌, ◌≤◌, ◌<◌, length};
 ghost use Rattle.answers.specs.Answers.{number_said};
 ghost use Rattle.ht_file.specs.Places.{image_fits};

@@ -1,4 +1,6 @@
 // The program `list`: reads a log on standard input and writes its lines, one for each record.
+#![tactic(auto)]
+
 ghost use Rattle.std.specs.Prelude.{◌≡◌, length};
 
 use answers::Number;

@@ -1,5 +1,7 @@
 // The tags, one byte for each bucket, as in the original's meta_map.rs. The tags are lent, exactly
 // the tag pages of the table; another length is refused. Questions about a single tag take the byte.
+#![tactic(auto)]
+
 ghost use Rattle.std.specs.Prelude.{◌≡◌, not, ◌+◌, ◌/◌, ◌≤◌, length, eqb};
 ghost use Rattle.answers.specs.Answers.{outcome_said, number_said, truth_said, given};
 ghost use Rattle.ht_file.specs.Places.{if_tags};

@@ -1,5 +1,7 @@
 // What other languages are told in numbers, part by part: the number of a refusal, of an edition and of a
 // writer's state, and the values of an audit. `bitbox` puts them into the structs that cross the boundary.
+#![tactic(auto)]
+
 ghost use Rattle.std.specs.Prelude.{◌≡◌};
 ghost use Rattle.answers.specs.Answers.{outcome_said};
 ghost use Rattle.answers.specs.Refusals.{number_of};

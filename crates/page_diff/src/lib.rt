@@ -1,5 +1,7 @@
 // Which slots of a page have changed, and their nodes packed and put back: the original's
 // page_diff.rs. A diff goes by value throughout; pages are lent.
+#![tactic(auto)]
+
 ghost use Rattle.std.specs.Prelude.{◌≡◌, false, map, ◌+◌, ◌*◌, ◌≤◌, length, replicate};
 ghost use Rattle.answers.specs.Refusals.{number_of};
 ghost use Rattle.blocks.specs.Blocks.{put, flat, tabulate};
@@ -27,20 +29,20 @@ const RESERVED: u64 = 0x4000_0000_0000_0000;
 // Bit i of words[w] marks slot 64w + i. Slots 0 to 125 are a page's nodes, 126 is never used, and 127
 // says that the page was cleared.
 #[repr(C)]
-#[derive(Drop)]
+#[derive(Clone, Copy)]
 pub struct Diff {
     pub words: [u64; 2],
 }
 
 // A diff, and whether it is the one asked for. (An array does not stand in an enum, so beside it.)
-#[derive(Drop)]
+#[derive(Clone, Copy)]
 pub struct DiffAnswer {
     pub outcome: Outcome,
     pub diff: Diff,
 }
 
 // The next marked slot, 128 where there is none, and the marks that are left.
-#[derive(Drop)]
+#[derive(Clone, Copy)]
 pub struct NextSlot {
     pub slot: usize,
     pub rest: Diff,
@@ -48,13 +50,13 @@ pub struct NextSlot {
 
 // The nodes of the marked slots in the slots' order, with their count; zeros from the count on.
 #[repr(C)]
-#[derive(Drop)]
+#[derive(Clone, Copy)]
 pub struct Packed {
     pub nodes: [[u8; 32]; 126],
     pub count: usize,
 }
 
-#[derive(Drop)]
+#[derive(Clone, Copy)]
 pub struct Packing {
     pub outcome: Outcome,
     pub packed: Packed,

@@ -1,6 +1,8 @@
 // The path of a hash through a table, as in the original's mod.rs: probing on, lookup and the
 // allocation of a bucket. Tags are lent as exactly the tag pages of the table and an image as exactly
 // its pages; another length is refused.
+#![tactic(auto)]
+
 ghost use Rattle.std.specs.Prelude.{◌≡◌, ◌+◌, ◌*◌, ◌%◌, ◌≤◌, ◌<◌, length, take, drop};
 ghost use Rattle.answers.specs.Refusals.{number_of};
 ghost use Rattle.blocks.specs.Blocks.{same_bytes};
@@ -12,7 +14,7 @@ use ht_file::{ID_AT, ID_SIZE};
 use meta_map::{EMPTY, TOMBSTONE};
 
 // The hits that may come before a bucket that is given: so many, or any number.
-#[derive(Drop)]
+#[derive(Clone, Copy)]
 pub enum Limit {
     Hits(usize),
     Unlimited,
@@ -22,7 +24,7 @@ pub enum Limit {
 const MAX_HITS: usize = 9998;
 
 // What probing on comes to first: a bucket, and the number of its visit.
-#[derive(Drop)]
+#[derive(Clone, Copy)]
 pub enum Probed {
     Empty { bucket: u64, visit: u64 },
     Tombstone { bucket: u64, visit: u64 },
@@ -32,7 +34,7 @@ pub enum Probed {
 }
 
 // What lookup answers: the bucket that holds the page, or that no bucket does.
-#[derive(Drop)]
+#[derive(Clone, Copy)]
 pub enum Found {
     At(u64),
     Absent,
@@ -41,7 +43,7 @@ pub enum Found {
 }
 
 // What allocation answers: the bucket that is given.
-#[derive(Drop)]
+#[derive(Clone, Copy)]
 pub enum Allocated {
     At(u64),
     Refused(Refusal),
@@ -49,7 +51,7 @@ pub enum Allocated {
 
 // Where a walk along the path stands: the visit, its bucket, and how far on the next one lies, less
 // whole rounds.
-#[derive(Drop)]
+#[derive(Clone, Copy)]
 struct ProbeSequence {
     visit: usize,
     bucket: usize,

@@ -1,5 +1,7 @@
 // Readers that are asked again: past the end, past a refusal, and moving on, on logs of both editions; and each byte after
 // end set by itself. The file `stdout` is worked out from document 01 and requests W-207 and W-208 apart from this code.
+#![tactic(auto)]
+
 ghost use Rattle.std.specs.Prelude.{◌≡◌, ◌+◌, ◌≤◌, length};
 ghost use Rattle.wal.specs.declared.AfterEnd.TheVariants.{Zeros, Tolerant};
 ghost use Rattle.wal.specs.Reader.{start_of};

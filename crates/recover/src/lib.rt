@@ -2,6 +2,8 @@
 // image is touched; then its entries are applied one after the other. Each write is by a function that
 // is lent only the tag byte, one slot or the last 40 bytes of a page, so whatever stops it leaves an image
 // that differs from the table only in places that the log names.
+#![tactic(auto)]
+
 ghost use Rattle.std.specs.Prelude.{◌≡◌, true, false, [], ◌∷◌, ◌++◌, ◌+◌, ◌*◌, ◌≤◌, length, get_or};
 ghost use Rattle.answers.specs.Answers.{given, outcome_said};
 ghost use Rattle.blocks.specs.Blocks.{tabulate};
@@ -25,14 +27,14 @@ use wal::{AfterEnd, Edition};
 use wal_read::Head;
 
 // What replay expects of a log: the sync number, and the seed of the table's store, which a log of edition two names.
-#[derive(Drop)]
+#[derive(Clone, Copy)]
 pub struct Expected {
     pub sync: u32,
     pub seed: [u8; 16],
 }
 
 // What replay did: nothing, for an empty log; nothing, for the log of another sync; or all of it.
-#[derive(Drop)]
+#[derive(Clone, Copy)]
 pub enum Recovered {
     Nothing,
     Stale,
@@ -41,7 +43,7 @@ pub enum Recovered {
 }
 
 // What one step did: an entry applied, with the position of the next; or it stands at the end.
-#[derive(Drop)]
+#[derive(Clone, Copy)]
 pub enum Stepped {
     Cleared(usize),
     Updated(usize),

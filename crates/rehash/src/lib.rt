@@ -1,6 +1,8 @@
 // Growth, as the original's rehash.rs: the marker of a growth that is under way, what is left to do
 // after one was stopped, and the copy of a table's pages into a larger table. Files, and the order in
 // which they are written, stay with the caller.
+#![tactic(auto)]
+
 ghost use Rattle.std.specs.Prelude.{◌≡◌, true, ◌+◌, ◌≤◌, ◌<◌, length};
 ghost use Rattle.answers.specs.Answers.{outcome_said};
 ghost use Rattle.blocks.specs.Blocks.{block, put};
@@ -20,21 +22,21 @@ const MARKER_LEN: usize = 16;
 const MARKER_MAGIC: u64 = 0x0031_4852_544D_4F4E;
 
 // A marker that was written, or zeros.
-#[derive(Drop)]
+#[derive(Clone, Copy)]
 pub struct MarkerAnswer {
     pub outcome: Outcome,
     pub bytes: [u8; 16],
 }
 
 // The bucket counts of a marker that was read.
-#[derive(Drop)]
+#[derive(Clone, Copy)]
 pub enum MarkerRead {
     Is { old: u32, new: u32 },
     Refused(Refusal),
 }
 
 // What is left to do of a growth: remove its files, or write the new count to the metadata before.
-#[derive(Drop)]
+#[derive(Clone, Copy)]
 pub enum Decision {
     Tidy,
     UpdateMetaThenTidy,
@@ -42,7 +44,7 @@ pub enum Decision {
 }
 
 // What the copy did.
-#[derive(Drop)]
+#[derive(Clone, Copy)]
 pub enum Grown {
     Done,
     NothingToDo,

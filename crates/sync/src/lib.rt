@@ -1,6 +1,8 @@
 // A sync: changes to pages, each logged, with their buckets taken and given back in the tags: the
 // original's `prepare_sync`. `step` is one change; `sync` begins the log, walks the list of changes and
 // finishes the log. Data pages are not written: the caller does that, and replay repeats it after a stop.
+#![tactic(auto)]
+
 ghost use Rattle.std.specs.Prelude.{◌≡◌, true, [], ◌≤◌, ◌<◌, length};
 ghost use Rattle.answers.specs.Answers.{given, refused};
 ghost use Rattle.answers.specs.Refusals.{number_of};
@@ -27,7 +29,7 @@ const CELL: u64 = 2;
 // Where a page's bucket is known from, as two numbers, for records that cross the boundary to C: 0 is a
 // known bucket, 1 a new page, and any other kind a cell.
 #[repr(C)]
-#[derive(Drop)]
+#[derive(Clone, Copy)]
 pub struct Place {
     pub kind: u64,
     pub at: u64,
@@ -36,7 +38,7 @@ pub struct Place {
 // A change of a page: its id and hash, the slots that changed, and where its bucket is known from. A
 // diff with the mark of a cleared page clears it.
 #[repr(C)]
-#[derive(Drop)]
+#[derive(Clone, Copy)]
 pub struct Change {
     pub id: [u8; 32],
     pub hash: u64,
@@ -46,7 +48,7 @@ pub struct Change {
 
 // What a sync carries from change to change: the count of buckets, how many hits allocation may meet, where
 // its log stands, and how many buckets are full.
-#[derive(Drop)]
+#[derive(Clone, Copy)]
 pub struct SyncState {
     pub n: usize,
     pub limit: Limit,
@@ -55,13 +57,13 @@ pub struct SyncState {
 }
 
 // What a change has come to: its bucket and the number of its page in the table's file.
-#[derive(Drop)]
+#[derive(Clone, Copy)]
 pub enum Taken {
     At { bucket: u64, page: u64 },
     Refused(Refusal),
 }
 
-#[derive(Drop)]
+#[derive(Clone, Copy)]
 pub struct StepAnswer {
     pub taken: Taken,
     pub state: SyncState,
@@ -69,7 +71,7 @@ pub struct StepAnswer {
 
 // What a sync begins with: the count of buckets; what its log starts with (number, edition, seed); and the
 // writer that it hands back where it is refused before it has begun.
-#[derive(Drop)]
+#[derive(Clone, Copy)]
 pub struct SyncStart {
     pub n: usize,
     pub log_start: Start,
@@ -78,7 +80,7 @@ pub struct SyncStart {
 
 // How a sync goes: on, with the state for its next change; refused before its first change, with the
 // writer that it hands back; or refused at a change.
-#[derive(Drop)]
+#[derive(Clone, Copy)]
 pub enum Run {
     On(SyncState),
     Refused(Refusal, Writer),
@@ -86,21 +88,21 @@ pub enum Run {
 }
 
 // What the whole sync has come to: the full buckets and the length of the finished log.
-#[derive(Drop)]
+#[derive(Clone, Copy)]
 pub enum Synced {
     Done { occupied: u64, length: u64 },
     Refused(Refusal),
     RefusedAt(usize, Refusal),
 }
 
-#[derive(Drop)]
+#[derive(Clone, Copy)]
 pub struct SyncAnswer {
     pub synced: Synced,
     pub writer: Writer,
 }
 
 // What a change is to do.
-#[derive(Drop)]
+#[derive(Clone, Copy)]
 enum Planned {
     Clears(u64),
     Updates(u64),
@@ -189,7 +191,7 @@ fn plan(tags: &[u8], n: usize, cells: &[u64], c: Change) -> Planned
 }
 
 // What a change will have done, if it is accepted: nothing is written yet.
-#[derive(Drop)]
+#[derive(Clone, Copy)]
 enum Outlook {
     Clears(u64),
     Updates(u64),

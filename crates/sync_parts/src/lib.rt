@@ -1,6 +1,8 @@
 // The parts of a sync, each of which decides or writes one thing: the bucket that a change names, the tag
 // rule, the length of its record, a tag and its page's mark, a cell, the number of full buckets. They
 // take any numbers and any lent memory; `sync` puts them together.
+#![tactic(auto)]
+
 ghost use Rattle.std.specs.Prelude.{◌≡◌, ◌+◌, ◌-◌, ◌/◌, ◌^◌, min, set};
 ghost use Rattle.sync_parts.specs.Parts.{named_by, name_said, tag_fits, body_of, cells_at, full_tags};
 
@@ -11,7 +13,7 @@ use page_diff::Diff;
 pub const UNSET: u64 = 0xffff_ffff_ffff_ffff;
 
 // Where a page's bucket is known from: it is known; the page is new; or a cell has it, or will have it.
-#[derive(Drop)]
+#[derive(Clone, Copy)]
 pub enum Where {
     Known(u64),
     Fresh,
@@ -19,7 +21,7 @@ pub enum Where {
 }
 
 // The bucket that a change names.
-#[derive(Drop)]
+#[derive(Clone, Copy)]
 pub enum Name {
     Bucket(u64),
     None,

@@ -2,6 +2,8 @@
 // changes that meet the same cell or bucket; and the clears that W-203 refuses. Each line is a title, the
 // answer, and what stands afterwards in the first four tags, the mark, the first two cells, the writer and
 // some bytes of the log. The file `stdout` is worked out from documents 01 and 02 apart from this code.
+#![tactic(auto)]
+
 use answers::Refusal;
 use page_diff::Diff;
 use sync::{Change, Place, Run, SyncAnswer, SyncStart, SyncState, Synced, Taken};

@@ -1,5 +1,7 @@
 // The audit of a table image, as the original's validate.rs: each full bucket has a label of its own,
 // the tag of its hash, and stands where the path of its hash leads before an empty bucket.
+#![tactic(auto)]
+
 ghost use Rattle.std.specs.Prelude.{◌≡◌, true, ◌≤◌, ◌<◌, length};
 ghost use Rattle.answers.specs.Answers.{outcome_said};
 ghost use Rattle.ht_file.specs.Places.{image_fits};
@@ -10,14 +12,14 @@ use answers::{Number, Outcome, Refusal, Truth};
 use meta_map::EMPTY;
 
 // What an audit that passes answers.
-#[derive(Drop)]
+#[derive(Clone, Copy)]
 pub struct Audit {
     pub capacity: u64,
     pub occupied: u64,
     pub rate: f64,
 }
 
-#[derive(Drop)]
+#[derive(Clone, Copy)]
 pub enum Audited {
     Passed(Audit),
     Refused(Refusal),

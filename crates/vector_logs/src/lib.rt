@@ -1,6 +1,8 @@
 // The cases on logs and what they carry, 35, 36, 40 to 48, 58 and 59 of docs/VECTORS.md: nodes packed and put
 // back; a log read, read off and written; replay, and its stops. What is answered is held to the list; what is
 // lent keeps its length.
+#![tactic(auto)]
+
 ghost use Rattle.std.specs.Prelude.{◌≡◌, length};
 
 use page_diff::Diff;
@@ -291,7 +293,7 @@ fn stops(
 }
 
 // Where the replay stands: the next entry, how many hashes are used, and whether the log has ended.
-#[derive(Drop)]
+#[derive(Clone, Copy)]
 struct Standing {
     at: usize,
     used: usize,

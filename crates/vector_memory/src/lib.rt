@@ -1,6 +1,8 @@
 // What a case of the list of answers is given and what it answers, as words; the memories of which its calls
 // are lent parts, filled and looked at. What a call answers is held to the list (docs/VECTORS.md): promises
 // are of words, of parts, and of lengths.
+#![tactic(auto)]
+
 ghost use Rattle.std.specs.Prelude.{◌≡◌, ◌+◌, ◌%◌, ◌^◌, ◌<◌, ◌≤◌, length, take, slice_index, slice_set};
 ghost use Rattle.answers.specs.Answers.{outcome_said, number_said, truth_said};
 ghost use Rattle.answers.specs.Refusals.{number_of};
@@ -9,7 +11,7 @@ ghost use Rattle.vector_memory.specs.Words.{six, refusal_word, number_words, tru
 use answers::{Number, Outcome, Refusal, Truth};
 
 // What a call is given: an operation and its inputs.
-#[derive(Drop)]
+#[derive(Clone, Copy)]
 pub struct In {
     pub op: u64,
     pub a: u64,
@@ -22,7 +24,7 @@ pub struct In {
 }
 
 // An answer in words, zero where it has no more.
-#[derive(Drop)]
+#[derive(Clone, Copy)]
 pub struct Words {
     pub a: u64,
     pub b: u64,
@@ -86,7 +88,7 @@ pub fn of_truth(r: Truth) -> Words
 }
 
 // How many answers were looked at, and how many differ.
-#[derive(Drop)]
+#[derive(Clone, Copy)]
 pub struct Count {
     pub answers: u64,
     pub differ: u64,

@@ -1,5 +1,7 @@
 // The cases on tables, 23 to 34, 37, 56 and 57 of docs/VECTORS.md: every small table swept; tags, blocks and
 // markers; growth and audit. What is answered is held to the list; what is lent keeps its length.
+#![tactic(auto)]
+
 ghost use Rattle.std.specs.Prelude.{◌≡◌, ◌≤◌, ◌<◌, length};
 
 use vector_memory::{

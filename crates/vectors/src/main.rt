@@ -2,6 +2,8 @@
 // the original's or one worked out from document 01 apart from this code (docs/VECTORS.md). What ours answers
 // is held to it; a line that differs is told. Bytes and words that calls are lent stand in three memories,
 // which other lines fill.
+#![tactic(auto)]
+
 ghost use Rattle.std.specs.Prelude.{◌≤◌};
 
 use page_diff::Diff;
@@ -357,7 +359,7 @@ fn run(w: In, r: Words, line: &[u8], k: Count, a: &mut [u8], b: &mut [u8], c: &m
 }
 
 // Where the next line stands, and what was counted so far.
-#[derive(Drop)]
+#[derive(Clone, Copy)]
 struct Next {
     at: usize,
     count: Count,

@@ -1,5 +1,7 @@
 // The log of a sync, as in the original's wal/mod.rs: its edition, the tags of its records, their sizes, and
 // the writer's state. Reading is in wal_read, writing in wal_write; all three cite specs/ here.
+#![tactic(auto)]
+
 ghost use Rattle.std.specs.Prelude.{◌≡◌};
 ghost use Rattle.wal.specs.Log.{mark_size, start_size, edition_one, edition_two};
 
@@ -32,14 +34,14 @@ pub const SEED_AT: usize = 6;
 
 // The edition of a log: one, in which a record's mark is its tag; or two, with 0xB2 before each tag and the
 // store named in the start.
-#[derive(Drop)]
+#[derive(Clone, Copy)]
 pub enum Edition {
     One,
     Two,
 }
 
 // What a log starts with: its sync number, its edition and the seed of its store, which edition one leaves out.
-#[derive(Drop)]
+#[derive(Clone, Copy)]
 pub struct Start {
     pub sync: u32,
     pub edition: Edition,
@@ -47,7 +49,7 @@ pub struct Start {
 }
 
 // What is wanted after the end of a log: zeros, up to the end of what is lent; or, by a tolerant call, nothing.
-#[derive(Drop)]
+#[derive(Clone, Copy)]
 pub enum AfterEnd {
     Zeros,
     Tolerant,
@@ -55,7 +57,7 @@ pub enum AfterEnd {
 
 // Where a writer stands: not begun, open at a position of a log of an edition, or finished with a length. It goes
 // by value; the log is lent at each call.
-#[derive(Drop)]
+#[derive(Clone, Copy)]
 pub enum Writer {
     Fresh,
     Open(usize, Edition),

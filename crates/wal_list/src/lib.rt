@@ -1,5 +1,7 @@
 // Reading off a log of either edition: the lines of the program `list`. `line_at` makes one line, `lines_into` all of
 // them.
+#![tactic(auto)]
+
 ghost use Rattle.std.specs.Prelude.{◌≡◌, ◌++◌, ◌+◌, ◌≤◌, length};
 ghost use Rattle.answers.specs.Answers.{given, number_said};
 ghost use Rattle.blocks.specs.Blocks.{put};
@@ -20,7 +22,7 @@ pub const LINE_SIZE: usize = 80;
 pub const LINES_SIZE: usize = 4 * MOST + 2 * LINE_SIZE;
 
 // The bytes of the line that was filled in, and the position of the record that has the next one.
-#[derive(Drop)]
+#[derive(Clone, Copy)]
 pub enum Line {
     More { len: usize, next: usize },
     Last { len: usize },

@@ -2,6 +2,8 @@
 // apart but for its nodes, and builds no table. `entry_by` gives the whole entry. Both take the log, its
 // edition, a position and what is wanted after end: zeros in `head_at` and `entry_at`, nothing in the calls whose
 // name ends with `_tolerant`. `WalBlobReader` holds log, position and that, and what the log's start answered.
+#![tactic(auto)]
+
 ghost use Rattle.std.specs.Prelude.{◌≡◌, ◌+◌, ◌*◌, ◌≤◌, length};
 ghost use Rattle.answers.specs.Answers.{outcome_said, number_said};
 ghost use Rattle.blocks.specs.Blocks.{block};
@@ -18,7 +20,7 @@ use page_diff::{Diff, DiffAnswer, Packed};
 use wal::{AfterEnd, Edition};
 
 // A record without its nodes: the bucket, the count of nodes, and the position after the record.
-#[derive(Drop)]
+#[derive(Clone, Copy)]
 pub enum Head {
     Clear {
         bucket: u64,
@@ -34,13 +36,13 @@ pub enum Head {
 }
 
 // The tag of a mark, or the refusal where there is none.
-#[derive(Drop)]
+#[derive(Clone, Copy)]
 enum Tag {
     Is(u8),
     Refused(Refusal),
 }
 
-#[derive(Drop)]
+#[derive(Clone, Copy)]
 pub enum What {
     Clear(u64),
     Update(u64),
@@ -50,7 +52,7 @@ pub enum What {
 
 // An entry: what it is and its bucket; of an update the id, the diff, the nodes and the elided children,
 // all zero otherwise; and where the next one stands. (An array does not stand in an enum, so beside it.)
-#[derive(Drop)]
+#[derive(Clone, Copy)]
 pub struct WalEntry {
     pub what: What,
     pub id: [u8; 32],
@@ -307,7 +309,7 @@ pub fn entry_set(log: &[u8], at: usize, start: Number, rule: AfterEnd) -> WalEnt
 
 // A reader set on a log: the log, the position of the next entry, what the start answered, and what is wanted after
 // end.
-#[derive(Drop)]
+#[derive(Clone, Copy)]
 pub struct WalBlobReader<'a> {
     pub log: &'a [u8],
     pub at: usize,

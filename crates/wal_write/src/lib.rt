@@ -1,6 +1,8 @@
 // The write path of a log, as the original's wal/write.rs. The state goes by value and the log is lent
 // at each call; a refused call leaves both as they were. A position is compared with what the slice has
 // left, so no sum wraps on one that no call answered.
+#![tactic(auto)]
+
 ghost use Rattle.std.specs.Prelude.{◌≡◌, ◌++◌, ◌+◌, ◌*◌, ◌/◌, ◌≤◌, leb, length, take};
 ghost use Rattle.answers.specs.Refusals.{number_of};
 ghost use Rattle.answers.specs.Answers.{refused, outcome_said};
@@ -18,14 +20,14 @@ use wal::{Edition, Start, Writer};
 const TAIL_SIZE: usize = 16;
 
 // What a call answers, and the state after it.
-#[derive(Drop)]
+#[derive(Clone, Copy)]
 pub struct Written {
     pub outcome: Outcome,
     pub writer: Writer,
 }
 
 // What finish answers, the length of the log, and the state after it.
-#[derive(Drop)]
+#[derive(Clone, Copy)]
 pub struct FinishedAnswer {
     pub answer: Number,
     pub writer: Writer,

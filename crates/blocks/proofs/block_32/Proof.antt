@@ -7,53 +7,53 @@ use mathlib.Core.Path.{sym}
 use Rattle.blocks.proofs.block_32.Statement.{statement}
 use Rattle.blocks.proofs.block_32.Tie as tie
 
-abbrev invariant-loop : tie.invariant-loop
+abbrev invariant-loop : tie.invariant-loop-i
 invariant-loop s at b₀ i₀ b i = Read 32 s at b i
 
-abbrev decreases-loop : tie.decreases-loop
+abbrev decreases-loop : tie.decreases-loop-i
 decreases-loop s at b₀ i₀ b i = 32 - i
 
-returns : tie.Need-returns invariant-loop decreases-loop
+returns : tie.Need-returns-then-s-lt32 invariant-loop decreases-loop
 returns c = sym (block_short 32 c.before.args.s.now c.before.args.at (omega arith))
 
-sub-if2 : tie.Need-overflow-sub-if2 invariant-loop decreases-loop
+sub-if2 : tie.Need-overflow_sub-s invariant-loop decreases-loop
 sub-if2 c = omega arith
 
-returns-2 : tie.Need-returns-2 invariant-loop decreases-loop
+returns-2 : tie.Need-returns-then-s-at invariant-loop decreases-loop
 returns-2 c = sym (block_short 32 c.before.before.args.s.now c.before.before.args.at (omega arith))
 
-loop-holds : tie.Need-loop-init invariant-loop decreases-loop
+loop-holds : tie.Need-loop-i-init invariant-loop decreases-loop
 loop-holds c = read_start 32 c.before.before.args.s.now c.before.before.args.at
 
-add-b : tie.Need-overflow-add-b invariant-loop decreases-loop
+add-b : tie.Need-overflow_add-b invariant-loop decreases-loop
 add-b c = omega arith
 
-shared-slice-read-b : tie.Need-shared-slice-read-b invariant-loop decreases-loop
+shared-slice-read-b : tie.Need-bounds-s-at invariant-loop decreases-loop
 shared-slice-read-b c = omega arith
 
-array-write-b : tie.Need-array-write-b invariant-loop decreases-loop
+array-write-b : tie.Need-bounds-b-i invariant-loop decreases-loop
 array-write-b c = omega arith
 
-add-i : tie.Need-overflow-add-i invariant-loop decreases-loop
+add-i : tie.Need-overflow_add-i invariant-loop decreases-loop
 add-i c = omega arith
 
-loop-less : tie.Need-loop-smaller invariant-loop decreases-loop
+loop-less : tie.Need-loop-i-smaller invariant-loop decreases-loop
 loop-less c = omega arith
 
-loop-again : tie.Need-loop-preserved invariant-loop decreases-loop
+loop-again : tie.Need-loop-i-preserved invariant-loop decreases-loop
 loop-again c =
     let at-loop = c.before.before in
     let args = at-loop.before.before.before.args in
-    read_turn 32 args.s.now args.at at-loop.loop.b at-loop.loop.i at-loop.loop.invariant (omega arith) (omega arith)
+    read_turn 32 args.s.now args.at at-loop.loop-i.b at-loop.loop-i.i at-loop.loop-i.invariant (omega arith) (omega arith)
 
-returns-3 : tie.Need-returns-3 invariant-loop decreases-loop
+returns-3 : tie.Need-returns invariant-loop decreases-loop
 returns-3 c =
     let at-loop = c.before in
     let args = at-loop.before.before.before.args in
-    read_end 32 args.s.now args.at at-loop.loop.b at-loop.loop.i at-loop.loop.invariant (omega arith) (omega arith)
+    read_end 32 args.s.now args.at at-loop.loop-i.b at-loop.loop-i.i at-loop.loop-i.invariant (omega arith) (omega arith)
 
-pub block-32-spec : {M : Type 1} → statement M
-block-32-spec =
+pub block_32_spec : {M : Type 1} → statement M
+block_32_spec =
     tie.close
     (tie.spec
     invariant-loop

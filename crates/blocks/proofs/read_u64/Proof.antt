@@ -5,14 +5,14 @@ use Rattle.blocks.specs.Blocks.{le}
 use Rattle.blocks.proofs.read_u64.Statement.{statement}
 use Rattle.blocks.proofs.read_u64.Tie as tie
 
-block-8-requires : tie.Need-block-8-requires
+block-8-requires : tie.Need-block_8-requires
 block-8-requires c κs = search rules
 
-u64-of-requires : tie.Need-u64-of-requires
+u64-of-requires : tie.Need-u64_of-requires
 u64-of-requires c κs = search rules
 
 returns : tie.Need-returns
-returns c = c.u64-of.ensures ∙ ap le c.before.block-8.ensures
+returns c = c.u64_of.ensures ∙ ap le c.before.block_8.ensures
 
-pub read-u64-spec : {M : Type 1} → statement M
-read-u64-spec = tie.close (tie.spec block-8-requires u64-of-requires returns)
+pub read_u64_spec : {M : Type 1} → statement M
+read_u64_spec = tie.close (tie.spec block-8-requires u64-of-requires returns)

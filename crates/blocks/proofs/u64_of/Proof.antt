@@ -12,108 +12,108 @@ use Rattle.blocks.proofs.u64_of.Reads as reads
 use Rattle.blocks.proofs.u64_of.Lts as lts
 
 bytes : (c : lts.Start reads.Pre reads.Post)
-    → Fits w8 (get_or c.args.t1 0 0) × Fits w8 (get_or c.args.t1 1 0) × Fits w8 (get_or c.args.t1 2 0) × Fits w8 (get_or c.args.t1 3 0)
-    × Fits w8 (get_or c.args.t1 4 0) × Fits w8 (get_or c.args.t1 5 0) × Fits w8 (get_or c.args.t1 6 0) × Fits w8 (get_or c.args.t1 7 0)
+    → Fits w8 (get_or c.args.b 0 0) × Fits w8 (get_or c.args.b 1 0) × Fits w8 (get_or c.args.b 2 0) × Fits w8 (get_or c.args.b 3 0)
+    × Fits w8 (get_or c.args.b 4 0) × Fits w8 (get_or c.args.b 5 0) × Fits w8 (get_or c.args.b 6 0) × Fits w8 (get_or c.args.b 7 0)
 bytes c = search rules
 
-array-read-b0 : tie.Need-array-read-b0
+array-read-b0 : tie.Need-bounds-b-0
 array-read-b0 c = search rules
 
-cast-b0 : tie.Need-overflow-cast-b0
+cast-b0 : tie.Need-overflow_cast-b0
 cast-b0 c = search rules
 
-array-read-b1 : tie.Need-array-read-b1
+array-read-b1 : tie.Need-bounds-b-1
 array-read-b1 c = search rules
 
-cast-b1 : tie.Need-overflow-cast-b1
+cast-b1 : tie.Need-overflow_cast-b1
 cast-b1 c = search rules
 
-array-read-b2 : tie.Need-array-read-b2
+array-read-b2 : tie.Need-bounds-b-2
 array-read-b2 c = search rules
 
-cast-b2 : tie.Need-overflow-cast-b2
+cast-b2 : tie.Need-overflow_cast-b2
 cast-b2 c = search rules
 
-array-read-b3 : tie.Need-array-read-b3
+array-read-b3 : tie.Need-bounds-b-3
 array-read-b3 c = search rules
 
-cast-b3 : tie.Need-overflow-cast-b3
+cast-b3 : tie.Need-overflow_cast-b3
 cast-b3 c = search rules
 
-array-read-b4 : tie.Need-array-read-b4
+array-read-b4 : tie.Need-bounds-b-4
 array-read-b4 c = search rules
 
-cast-b4 : tie.Need-overflow-cast-b4
+cast-b4 : tie.Need-overflow_cast-b4
 cast-b4 c = search rules
 
-array-read-b5 : tie.Need-array-read-b5
+array-read-b5 : tie.Need-bounds-b-5
 array-read-b5 c = search rules
 
-cast-b5 : tie.Need-overflow-cast-b5
+cast-b5 : tie.Need-overflow_cast-b5
 cast-b5 c = search rules
 
-array-read-b6 : tie.Need-array-read-b6
+array-read-b6 : tie.Need-bounds-b-6
 array-read-b6 c = search rules
 
-cast-b6 : tie.Need-overflow-cast-b6
+cast-b6 : tie.Need-overflow_cast-b6
 cast-b6 c = search rules
 
-array-read-b7 : tie.Need-array-read-b7
+array-read-b7 : tie.Need-bounds-b-7
 array-read-b7 c = search rules
 
-cast-b7 : tie.Need-overflow-cast-b7
+cast-b7 : tie.Need-overflow_cast-b7
 cast-b7 c = search rules
 
-mul-result : tie.Need-overflow-mul-result
+mul-result : tie.Need-overflow_mul-result
 mul-result c = omega (arith, bytes c)
 
-add-result : tie.Need-overflow-add-result
+add-result : tie.Need-overflow_add-result
 add-result c = omega (arith, bytes c)
 
-mul-result-2 : tie.Need-overflow-mul-result-2
+mul-result-2 : tie.Need-overflow_mul-result-2
 mul-result-2 c = omega (arith, bytes c)
 
-add-result-2 : tie.Need-overflow-add-result-2
+add-result-2 : tie.Need-overflow_add-result-2
 add-result-2 c = omega (arith, bytes c)
 
-mul-result-3 : tie.Need-overflow-mul-result-3
+mul-result-3 : tie.Need-overflow_mul-result-3
 mul-result-3 c = omega (arith, bytes c)
 
-add-result-3 : tie.Need-overflow-add-result-3
+add-result-3 : tie.Need-overflow_add-result-3
 add-result-3 c = omega (arith, bytes c)
 
-mul-result-4 : tie.Need-overflow-mul-result-4
+mul-result-4 : tie.Need-overflow_mul-result-4
 mul-result-4 c = omega (arith, bytes c)
 
-add-result-4 : tie.Need-overflow-add-result-4
+add-result-4 : tie.Need-overflow_add-result-4
 add-result-4 c = omega (arith, bytes c)
 
-mul-result-5 : tie.Need-overflow-mul-result-5
+mul-result-5 : tie.Need-overflow_mul-result-5
 mul-result-5 c = omega (arith, bytes c)
 
-add-result-5 : tie.Need-overflow-add-result-5
+add-result-5 : tie.Need-overflow_add-result-5
 add-result-5 c = omega (arith, bytes c)
 
-mul-result-6 : tie.Need-overflow-mul-result-6
+mul-result-6 : tie.Need-overflow_mul-result-6
 mul-result-6 c = omega (arith, bytes c)
 
-add-result-6 : tie.Need-overflow-add-result-6
+add-result-6 : tie.Need-overflow_add-result-6
 add-result-6 c = omega (arith, bytes c)
 
-mul-result-7 : tie.Need-overflow-mul-result-7
+mul-result-7 : tie.Need-overflow_mul-result-7
 mul-result-7 c = omega (arith, bytes c)
 
-add-result-7 : tie.Need-overflow-add-result-7
+add-result-7 : tie.Need-overflow_add-result-7
 add-result-7 c = omega (arith, bytes c)
 
 returns : tie.Need-returns
 returns c =
-    let b = c.args.t1 in
+    let b = c.args.b in
     let long : length b ≡ 8 = search rules in
     omega (arith, le-drop b 0, le-drop b 1, le-drop b 2, le-drop b 3, le-drop b 4, le-drop b 5, le-drop b 6, le-drop b 7, le_past b 8 (omega arith))
 
-pub u64-of-spec : {M : Type 1} → statement M
-u64-of-spec =
+pub u64_of_spec : {M : Type 1} → statement M
+u64_of_spec =
     tie.close
     (tie.spec
     array-read-b0
