@@ -51,8 +51,9 @@ loop-again c =
       inv.1,
       inv.2,
       elim c.if-a-k.branch [
-          then-a-k w ↦ w.same-is ∙ sym (same_next a b i here there ∙ ap (λ (t : Bool). same_bytes (take i a) (take i b) && t) (ne_eqb (get_or a i 0) (get_or b i 0) w.if-a-k.true) ∙ and_false (same_bytes (take i a) (take i b)))
-          | else-a-k w ↦ w.same-is ∙ inv.3 ∙ sym (same_next a b i here there ∙ ap (λ (t : Bool). same_bytes (take i a) (take i b) && t) (eq-eqb (get_or a i 0) (get_or b i 0) w.if-a-k.false) ∙ and_true (same_bytes (take i a) (take i b))) ],
+        | then-a-k w ↦ w.same-is ∙ sym (same_next a b i here there ∙ ap (λ (t : Bool). same_bytes (take i a) (take i b) && t) (ne_eqb (get_or a i 0) (get_or b i 0) w.if-a-k.true) ∙ and_false (same_bytes (take i a) (take i b)))
+        | else-a-k w ↦ w.same-is ∙ inv.3 ∙ sym (same_next a b i here there ∙ ap (λ (t : Bool). same_bytes (take i a) (take i b) && t) (eq-eqb (get_or a i 0) (get_or b i 0) w.if-a-k.false) ∙ and_true (same_bytes (take i a) (take i b)))
+      ],
     )
 
 returns : tie.Need-returns invariant-loop decreases-loop

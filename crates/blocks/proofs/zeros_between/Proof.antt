@@ -45,8 +45,9 @@ loop-again c =
       omega arith,
       inv.1,
       elim c.if-s-i-ne0.branch [
-          then-s-i-ne0 w ↦ inv.2 ∙ ap (λ (t : Bool). z && t) (on ∙ ap (λ (t : Bool). t && all_zero (drop (i + 1) s)) (ne_eqb (get_or s i 0) 0 w.if-s-i-ne0.true)) ∙ and_false z ∙ sym (ap (λ (t : Bool). t && all_zero (drop (i + 1) s)) w.zero-is)
-          | else-s-i-ne0 w ↦ inv.2 ∙ ap (λ (t : Bool). z && t) (on ∙ ap (λ (t : Bool). t && all_zero (drop (i + 1) s)) (eq-eqb (get_or s i 0) 0 w.if-s-i-ne0.false)) ∙ sym (ap (λ (t : Bool). t && all_zero (drop (i + 1) s)) w.zero-is) ],
+        | then-s-i-ne0 w ↦ inv.2 ∙ ap (λ (t : Bool). z && t) (on ∙ ap (λ (t : Bool). t && all_zero (drop (i + 1) s)) (ne_eqb (get_or s i 0) 0 w.if-s-i-ne0.true)) ∙ and_false z ∙ sym (ap (λ (t : Bool). t && all_zero (drop (i + 1) s)) w.zero-is)
+        | else-s-i-ne0 w ↦ inv.2 ∙ ap (λ (t : Bool). z && t) (on ∙ ap (λ (t : Bool). t && all_zero (drop (i + 1) s)) (eq-eqb (get_or s i 0) 0 w.if-s-i-ne0.false)) ∙ sym (ap (λ (t : Bool). t && all_zero (drop (i + 1) s)) w.zero-is)
+      ],
     )
 
 returns : tie.Need-returns invariant-loop decreases-loop
