@@ -19,6 +19,7 @@ CODE = re.compile(r"(?<![A-Za-z0-9_'])[A-Za-z_][A-Za-z0-9_₀-₉]*(?:-[A-Za-z0-
 # the library's names that stand as a part of ours
 LIBRARY = set("length drop take append mod pow suc le get_or snoc replicate shr or and ones set".split())
 # what falls together with another name once it is in snake case
+STAYS = set()
 OTHERWISE = {"said-done": "said_done_lem", "logStart": "log_start_of", "at-change": "at_change_lem", "after-end": "after_end_lem", "log-two": "log_two_lem",
              "put-end": "put_end_lem", "put-start": "put_start_lem", "nodes-at": "nodes_at_lem", "read-entry": "read_entry_lem"}
 
@@ -61,7 +62,9 @@ def main():
     changed = collections.Counter()
 
     def renamed(token):
-        if token in OTHERWISE:
+        if token in STAYS:
+            new = token
+        elif token in OTHERWISE:
             new = OTHERWISE[token]
         elif token in named:
             new = named[token]
@@ -72,6 +75,11 @@ def main():
         if new != token:
             changed[token, new] += 1
         return new
+
+    def outside(text):
+        """The names of ours that a file takes from a library under the older spelling: they stay."""
+        lines = re.findall(r"^use (?!Rattle\.)\S+\.\{([^}]*)\}", text, re.M)
+        return {word.strip() for line in lines for word in line.split(",")} & set(named)
 
     def line_of(line, kind):
         if kind == ".md":
@@ -89,6 +97,8 @@ def main():
         text = path.read_text()
         for token in TOKEN.findall(text):
             before[token] += 1
+        STAYS.clear()
+        STAYS.update(outside(text))
         out[path] = "\n".join(line_of(line, path.suffix) for line in text.split("\n"))
     news = collections.defaultdict(set)
     for (old, new), _ in changed.items():

@@ -1,7 +1,7 @@
 -- Laws of marks: the two words and their marks determine each other; the marks after a set, a join and a clear, and without the first.
 -- Assumes nothing.
 use mathlib.Core.Path.{◌≡◌, refl, sym, ap, ap₂, ◌∙◌, subst}
-use mathlib.Core.Bool.{Bool, true, false, not, ◌&&◌, ◌||◌, and_true, and_false, or_comm, or-false}
+use mathlib.Core.Bool.{Bool, true, false, not, ◌&&◌, ◌||◌, and-true, and-false, or_comm, or-false}
 use mathlib.Core.List.{List, [], ◌∷◌}
 use Prim.Native.Nat.{ℕ, zero, suc, ◌+◌, ◌-◌, ◌*◌, ◌/◌, ◌%◌, ◌^◌, ◌≤◌, ◌<◌, max}
 use native.Mathlib.Nat.{mod-eq_of_lt, mod-one, lt_of_not-le, lt_of_lt_of_le, lt_of_le_of_lt, not-le_of_lt, mod-lt, zero-add, pow-suc}
@@ -78,10 +78,10 @@ bit-drop x j h = ap (λ (n : ℕ). bit n j) (and_mask x 63) ∙ go (dec_le 63 j)
     go (yes p) =
         let e : j ≡ 63 = omega arith in
         off (digit_high (x % 2 ^ 63) j (lt_of_lt_of_le (mod-lt x (pow_pos 63)) (pow_mono p)))
-        ∙ sym (ap (λ (b : Bool). bit x j && not b) (eq-eqb j 63 e) ∙ and_false (bit x j))
+        ∙ sym (ap (λ (b : Bool). bit x j && not b) (eq-eqb j 63 e) ∙ and-false (bit x j))
     go (no p) =
         ap (λ (n : ℕ). eqb n 1) (digit_low x j 63 (lt_of_not-le p))
-        ∙ sym (ap (λ (b : Bool). bit x j && not b) (ne_eqb j 63 (λ e. omega arith)) ∙ and_true (bit x j))
+        ∙ sym (ap (λ (b : Bool). bit x j && not b) (ne_eqb j 63 (λ e. omega arith)) ∙ and-true (bit x j))
 
 -- ---- the two words
 pub mark_low : (ws : List ℕ) (s : ℕ) → s < 64 → marked ws s ≡ bit (get_or ws 0 0) s
@@ -227,7 +227,7 @@ set_code ws t =
 module _ (a b t : ℕ) (ha : a < 2 ^ 64) (hb : b < 2 ^ 64) where
   -- where slot s is not 127, nothing is dropped
   kept : (s : ℕ) (x : Bool) → (s ≡ 127 → ⊥) → x ≡ (x && not (eqb s 127))
-  kept s x n = sym (ap (λ (c : Bool). x && not c) (ne_eqb s 127 n) ∙ and_true x)
+  kept s x n = sym (ap (λ (c : Bool). x && not c) (ne_eqb s 127 n) ∙ and-true x)
 
   -- where slot s is not the one that is set, only the drop counts
   other : (s : ℕ) (x : Bool) → (s ≡ t → ⊥) → x ≡ (eqb s t || x)

@@ -1,7 +1,7 @@
 -- The step along the marked slots by trailing zeros and a cleared bit: the lowest set digit is the first slot, and `x & (x - 1)` is the
 -- word without it. Assumes nothing.
 use mathlib.Core.Path.{◌≡◌, refl, sym, ap, ap₂, ◌∙◌}
-use mathlib.Core.Bool.{Bool, true, false, not, ◌&&◌, true≢false, and_true, and_false}
+use mathlib.Core.Bool.{Bool, true, false, not, ◌&&◌, true≢false, and-true, and-false}
 use mathlib.Core.List.{List, [], ◌∷◌}
 use Prim.Native.Nat.{ℕ, suc, ◌+◌, ◌-◌, ◌*◌, ◌/◌, ◌^◌, ◌≤◌, ◌<◌}
 use native.Mathlib.Nat.{lt_of_not-le, lt_of_le_of_lt}
@@ -24,10 +24,10 @@ without_lowest x t i h e = ap (λ (n : ℕ). bit n i) (drop_lowest x t h e) ∙ 
     go : Dec (suc t ≤ i) → Dec (t ≤ i) → bit (x / 2 ^ suc t * 2 ^ suc t) i ≡ (bit x i && not (eqb i t))
     go (yes p) q =
         ap (λ (n : ℕ). eqb n 1) (digit_dropped_high x (suc t) i p)
-        ∙ sym (ap (λ (b : Bool). bit x i && not b) (ne_eqb i t (λ d. omega arith)) ∙ and_true (bit x i))
+        ∙ sym (ap (λ (b : Bool). bit x i && not b) (ne_eqb i t (λ d. omega arith)) ∙ and-true (bit x i))
     go (no p) (yes q) =
         off (digit_dropped_low x (suc t) i (lt_of_not-le p))
-        ∙ sym (ap (λ (b : Bool). bit x i && not b) (eq-eqb i t (omega arith)) ∙ and_false (bit x i))
+        ∙ sym (ap (λ (b : Bool). bit x i && not b) (eq-eqb i t (omega arith)) ∙ and-false (bit x i))
     go (no p) (no q) =
         off (digit_dropped_low x (suc t) i (lt_of_not-le p))
         ∙ sym (ap (λ (b : Bool). b && not (eqb i t)) (off (h i (lt_of_not-le q))))
@@ -56,7 +56,7 @@ module _ (ws : List ℕ) (h : get_or ws 0 0 < 2 ^ 64) (k : get_or ws 1 0 < 2 ^ 6
       (λ s u. without_lowest x t s (lowest 64 x).below ((lowest 64 x).there l)
       ∙ ap₂ (λ (b : Bool) (f : ℕ). b && not (eqb s f)) (sym (mark_low ws s u)) (sym (low_first n)))
       (λ s u v. sym (mark_high ws s u v)
-      ∙ sym (ap (λ (b : Bool). marked ws s && not b) (ne_eqb s (first_slot ws) (λ e. omega (arith, low_first n))) ∙ and_true (marked ws s))))
+      ∙ sym (ap (λ (b : Bool). marked ws s && not b) (ne_eqb s (first_slot ws) (λ e. omega (arith, low_first n))) ∙ and-true (marked ws s))))
 
   low-unmarked : get_or ws 0 0 ≡ 0 → (s : ℕ) → s < 64 → marked ws s ≡ false
   low-unmarked z s l = mark_low ws s l ∙ ap (λ (x : ℕ). bit x s) z ∙ off (digit_none s)

@@ -1,6 +1,6 @@
 -- What a turn of packing and of unpacking adds, and what they end with. Assumes nothing.
 use mathlib.Core.Path.{◌≡◌, refl, sym, ap, ap₂, ◌∙◌}
-use mathlib.Core.Bool.{Bool, true, false, cond, ◌&&◌, and_true}
+use mathlib.Core.Bool.{Bool, true, false, cond, ◌&&◌, and-true}
 use mathlib.Core.List.{List, [], ◌∷◌, ◌++◌, map, map-append}
 use Prim.Native.Nat.{ℕ, suc, ◌+◌, ◌-◌, ◌*◌, ◌/◌, ◌%◌, ◌≤◌, ◌<◌}
 use native.Mathlib.Nat.{lt_of_not-le}
@@ -104,7 +104,7 @@ put_all ws ns page out c e l f = tabulate_is (unpacked_byte ws ns page) 4096 out
   where
     go : (j : ℕ) → j < 4096 → (b : Bool) → marked ws (j / 32) ≡ b → (marked ws (j / 32) && ltb (rank ws (j / 32)) c) ≡ marked ws (j / 32)
     go j h true m =
-        ap (λ (b : Bool). marked ws (j / 32) && b) (lt-ltb (rank ws (j / 32)) c (omega (arith, e, rank_below ws 128 (j / 32) (omega arith) m))) ∙ and_true (marked ws (j / 32))
+        ap (λ (b : Bool). marked ws (j / 32) && b) (lt-ltb (rank ws (j / 32)) c (omega (arith, e, rank_below ws 128 (j / 32) (omega arith) m))) ∙ and-true (marked ws (j / 32))
     go j h false m = ap (λ (b : Bool). b && ltb (rank ws (j / 32)) c) m ∙ sym m
 
 -- ---- the answers, test by test

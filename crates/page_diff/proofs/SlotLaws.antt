@@ -1,7 +1,7 @@
 -- Laws of the marked slots as a rising list: what stands at an index, its rank, its length, the first and the others. Assumes nothing.
 use mathlib.Core.Path.{◌≡◌, refl, sym, ap, ap₂, ◌∙◌, subst}
 use mathlib.Core.Logic.{◌⊎◌, inl, inr, ⊎_elim}
-use mathlib.Core.Bool.{Bool, true, false, not, ◌&&◌, and_true, and_false}
+use mathlib.Core.Bool.{Bool, true, false, not, ◌&&◌, and-true, and-false}
 use mathlib.Core.List.{List, [], ◌∷◌, ◌++◌, append-nil}
 use Prim.Native.Nat.{ℕ, zero, suc, ◌+◌, ◌-◌, ◌%◌, ◌^◌, ◌≤◌, ◌<◌, zero-le}
 use native.Mathlib.Nat.{eq-or-lt_of_le, lt_of_not-le, mod-one, mod-eq_of_lt, add_comm, add_assoc, add-zero, zero-add, suc-add}
@@ -165,10 +165,10 @@ module _ (ws rs : List ℕ) (same : (s : ℕ) → s < 128 → marked rs s ≡ (m
   rest-unmarked s h e = same s h ∙ ap (λ (b : Bool). b && not (eqb s (first_slot ws))) e
 
   rest-first : (s : ℕ) → s < 128 → s ≡ first_slot ws → marked rs s ≡ false
-  rest-first s h e = same s h ∙ ap (λ (b : Bool). marked ws s && not b) (eq-eqb s (first_slot ws) e) ∙ and_false (marked ws s)
+  rest-first s h e = same s h ∙ ap (λ (b : Bool). marked ws s && not b) (eq-eqb s (first_slot ws) e) ∙ and-false (marked ws s)
 
   rest-other : (s : ℕ) → s < 128 → (s ≡ first_slot ws → ⊥) → marked rs s ≡ marked ws s
-  rest-other s h n = same s h ∙ ap (λ (b : Bool). marked ws s && not b) (ne_eqb s (first_slot ws) n) ∙ and_true (marked ws s)
+  rest-other s h n = same s h ∙ ap (λ (b : Bool). marked ws s && not b) (ne_eqb s (first_slot ws) n) ∙ and-true (marked ws s)
 
   -- up to the first slot there is none, in either
   rest-before : (n : ℕ) → n ≤ 128 → n ≤ first_slot ws → slots_below ws n ≡ []

@@ -6,17 +6,17 @@ use Rattle.ht_file.specs.Places.{count_allowed}
 use Rattle.ht_file.proofs.check_counts.Statement.{statement}
 use Rattle.ht_file.proofs.check_counts.Tie as tie
 
-count-allowed-requires : tie.Need-count-allowed-requires
+count-allowed-requires : tie.Need-count_allowed-requires
 count-allowed-requires c κs = search rules
 
-check-count-requires : tie.Need-check-count-requires
+check-count-requires : tie.Need-check_count-requires
 check-count-requires c κs = search rules
 
-returns : tie.Need-returns
-returns c = let ok : count_allowed c.before.before.before.args.a ≡ true = sym c.before.before.count-allowed.ensures ∙ c.before.if1.true in rw ok c.check-count.ensures
+returns : tie.Need-returns-then-count_allowed
+returns c = let ok : count_allowed c.before.before.before.args.a ≡ true = sym c.before.before.count_allowed.ensures ∙ c.before.if-count_allowed.true in rw ok c.check_count.ensures
 
-returns-2 : tie.Need-returns-2
-returns-2 c = let no-count : count_allowed c.before.before.args.a ≡ false = sym c.before.count-allowed.ensures ∙ c.if1.false in simp no-count
+returns-2 : tie.Need-returns
+returns-2 c = let no-count : count_allowed c.before.before.args.a ≡ false = sym c.before.count_allowed.ensures ∙ c.if-count_allowed.false in simp no-count
 
-pub check-counts-spec : {M : Type 1} → statement M
-check-counts-spec = tie.close (tie.spec count-allowed-requires check-count-requires returns returns-2)
+pub check_counts_spec : {M : Type 1} → statement M
+check_counts_spec = tie.close (tie.spec count-allowed-requires check-count-requires returns returns-2)

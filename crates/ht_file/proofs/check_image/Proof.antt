@@ -8,23 +8,23 @@ use Rattle.ht_file.proofs.Laws.{image_end, fits_by_start, unfit_by_start}
 use Rattle.ht_file.proofs.check_image.Statement.{statement}
 use Rattle.ht_file.proofs.check_image.Tie as tie
 
-page-start-requires : tie.Need-page-start-requires
+page-start-requires : tie.Need-page_start-requires
 page-start-requires c κs = search rules
 
-check-count-requires : tie.Need-check-count-requires
+check-count-requires : tie.Need-check_count-requires
 check-count-requires c κs = search rules
 
-returns : tie.Need-returns
+returns : tie.Need-returns-then-len-page_start
 returns c =
     let start = c.before.before in
     let n = start.before.args.n in
-    c.check-count.ensures ∙ ap (λ (fits : Bool). if_table fits (given tt)) (sym (fits_by_start n n start.before.args.len (image_length n) (image_end n) (c.before.if1.true ∙ start.page-start.ensures)))
+    c.check_count.ensures ∙ ap (λ (fits : Bool). if_table fits (given tt)) (sym (fits_by_start n n start.before.args.len (image_length n) (image_end n) (c.before.if-len-page_start.true ∙ start.page_start.ensures)))
 
-returns-2 : tie.Need-returns-2
+returns-2 : tie.Need-returns
 returns-2 c =
     let n = c.before.before.args.n in
-    let unfit = unfit_by_start n n c.before.before.args.len (image_length n) (image_end n) (λ e. c.if1.false (e ∙ sym c.before.page-start.ensures)) in
+    let unfit = unfit_by_start n n c.before.before.args.len (image_length n) (image_end n) (λ e. c.if-len-page_start.false (e ∙ sym c.before.page_start.ensures)) in
     simp unfit
 
-pub check-image-spec : {M : Type 1} → statement M
-check-image-spec = tie.close (tie.spec page-start-requires check-count-requires returns returns-2)
+pub check_image_spec : {M : Type 1} → statement M
+check_image_spec = tie.close (tie.spec page-start-requires check-count-requires returns returns-2)

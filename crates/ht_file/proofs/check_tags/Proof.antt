@@ -8,23 +8,23 @@ use Rattle.ht_file.proofs.Laws.{tags_end, fits_by_start, unfit_by_start}
 use Rattle.ht_file.proofs.check_tags.Statement.{statement}
 use Rattle.ht_file.proofs.check_tags.Tie as tie
 
-page-start-requires : tie.Need-page-start-requires
+page-start-requires : tie.Need-page_start-requires
 page-start-requires c κs = search rules
 
-check-count-requires : tie.Need-check-count-requires
+check-count-requires : tie.Need-check_count-requires
 check-count-requires c κs = search rules
 
-returns : tie.Need-returns
+returns : tie.Need-returns-then-len-page_start
 returns c =
     let start = c.before.before in
     let n = start.before.args.n in
-    c.check-count.ensures ∙ ap (λ (fits : Bool). if_table fits (given tt)) (sym (fits_by_start n 0 start.before.args.len (tags_length n) (tags_end n) (c.before.if1.true ∙ start.page-start.ensures)))
+    c.check_count.ensures ∙ ap (λ (fits : Bool). if_table fits (given tt)) (sym (fits_by_start n 0 start.before.args.len (tags_length n) (tags_end n) (c.before.if-len-page_start.true ∙ start.page_start.ensures)))
 
-returns-2 : tie.Need-returns-2
+returns-2 : tie.Need-returns
 returns-2 c =
     let n = c.before.before.args.n in
-    let unfit = unfit_by_start n 0 c.before.before.args.len (tags_length n) (tags_end n) (λ e. c.if1.false (e ∙ sym c.before.page-start.ensures)) in
+    let unfit = unfit_by_start n 0 c.before.before.args.len (tags_length n) (tags_end n) (λ e. c.if-len-page_start.false (e ∙ sym c.before.page_start.ensures)) in
     simp unfit
 
-pub check-tags-spec : {M : Type 1} → statement M
-check-tags-spec = tie.close (tie.spec page-start-requires check-count-requires returns returns-2)
+pub check_tags_spec : {M : Type 1} → statement M
+check_tags_spec = tie.close (tie.spec page-start-requires check-count-requires returns returns-2)

@@ -9,33 +9,33 @@ use Rattle.ht_file.proofs.Laws.{table_fits, table_unfit}
 use Rattle.ht_file.proofs.num_meta_byte_pages.Statement.{statement}
 use Rattle.ht_file.proofs.num_meta_byte_pages.Tie as tie
 
-check-count-requires : tie.Need-check-count-requires
+check-count-requires : tie.Need-check_count-fit-requires
 check-count-requires c κs = search rules
 
-enum-known-fit : tie.Need-enum-known-fit
+enum-known-fit : tie.Need-enum_known-fit
 enum-known-fit c = search rules
 
-enum_told : tie.Need-enum-told
+enum_told : tie.Need-enum_told-1
 enum_told c = search rules
 
-tag-pages-requires : tie.Need-tag-pages-requires
+tag-pages-requires : tie.Need-tag_pages-requires
 tag-pages-requires c κs = search rules
 
-returns : tie.Need-returns
+returns : tie.Need-returns-in-Refused
 returns c =
     let call = c.before.before.before in
     let n = call.before.args.n in
-    table_unfit (count_allowed n) (number_of c.before.fit.given.0.0) (given (tag_pages n)) (sym call.check-count.ensures ∙ ap outcome_said c.before.fit.given.1)
+    table_unfit (count_allowed n) (number_of c.before.fit-1.given.0.0) (given (tag_pages n)) (sym call.check_count-fit.ensures ∙ ap outcome_said c.before.fit-1.given.1)
 
-returns-2 : tie.Need-returns-2
+returns-2 : tie.Need-returns
 returns-2 c =
     let call = c.before.before.before in
     let n = call.before.args.n in
-    let ok : count_allowed n ≡ true = table_fits (count_allowed n) (sym call.check-count.ensures ∙ ap outcome_said c.before.enum_told.given.1) in
-    let e = c.tag-pages.ensures in
+    let ok : count_allowed n ≡ true = table_fits (count_allowed n) (sym call.check_count-fit.ensures ∙ ap outcome_said c.before.enum_told-1.given.1) in
+    let e = c.tag_pages.ensures in
     simp (ok, e)
 
-pub num-meta-byte-pages-spec : {M : Type 1} → statement M
-num-meta-byte-pages-spec =
+pub num_meta_byte_pages_spec : {M : Type 1} → statement M
+num_meta_byte_pages_spec =
     tie.close
     (tie.spec check-count-requires enum-known-fit returns enum_told tag-pages-requires returns-2)

@@ -7,11 +7,11 @@ use borrow.Author.Rules.{rules}
 use Rattle.page_diff.proofs.cleared.Statement.{statement}
 use Rattle.page_diff.proofs.cleared.Tie as tie
 
-element-copy-out-hi : tie.Need-element-copy-out-hi
+element-copy-out-hi : tie.Need-bounds-d-1
 element-copy-out-hi c = search rules
 
 returns : tie.Need-returns
-returns c = let ws = c.before.args.t1.words in let f : Fits w64 (get_or ws 1 0) = search rules in cleared_test ws f.fits
+returns c = let ws = c.before.args.d.words in let f : Fits w64 (get_or ws 1 0) = search rules in cleared_test ws f.fits
 
-pub cleared-spec : {M : Type 1} → statement M
-cleared-spec = tie.close (tie.spec element-copy-out-hi returns)
+pub cleared_spec : {M : Type 1} → statement M
+cleared_spec = tie.close (tie.spec element-copy-out-hi returns)

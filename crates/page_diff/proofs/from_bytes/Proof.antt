@@ -15,26 +15,26 @@ use borrow.Author.Rules.{rules}
 use Rattle.page_diff.proofs.from_bytes.Statement.{statement}
 use Rattle.page_diff.proofs.from_bytes.Tie as tie
 
-slice-aggregate-read-u64 : tie.Need-slice-aggregate-read-u64
+slice-aggregate-read-u64 : tie.Need-slice_bounds-read_u64-end
 slice-aggregate-read-u64 c = search rules
 
-read-u64-requires : tie.Need-read-u64-requires
+read-u64-requires : tie.Need-read_u64-lo-requires
 read-u64-requires c κs = search rules
 
-slice-aggregate-read-u64-2 : tie.Need-slice-aggregate-read-u64-2
+slice-aggregate-read-u64-2 : tie.Need-slice_bounds-read_u64-end-2
 slice-aggregate-read-u64-2 c = search rules
 
-read-u64-requires-2 : tie.Need-read-u64-requires-2
+read-u64-requires-2 : tie.Need-read_u64-hi-requires
 read-u64-requires-2 c κs = search rules
 
-returns : tie.Need-returns
-returns c = let bs = c.before.before.before.before.before.args.t1 in let long : length bs ≡ 16 = search rules in let lo : c.before.before.before.read_u64.result ≡ le (take 8 bs) = c.before.before.before.read_u64.ensures ∙ ap le (block_at 8 bs 0 (omega arith)) in let hi : c.before.read-u642.result ≡ le (take 8 (drop 8 bs)) = c.before.read-u642.ensures ∙ ap le (block_at 8 bs 8 (omega arith)) in let test : leb (2 ^ 62) (le (take 8 (drop 8 bs))) ≡ reserved (words_of bs) = reserved_test (words_of bs) (subst (λ (n : ℕ). n < 2 ^ 64) hi c.before.read-u642.type-inv) in let off : reserved (words_of bs) ≡ false = sym test ∙ lt-leb _ _ (subst (λ (n : ℕ). n < 2 ^ 62) hi c.if1.true) in (simp off, simp off (ap₂ (λ (p q : ℕ). p ∷ q ∷ []) lo hi))
+returns : tie.Need-returns-then-hi-lt-RESERVED
+returns c = let bs = c.before.before.before.before.before.args.bytes-1 in let long : length bs ≡ 16 = search rules in let lo : c.before.before.before.read_u64-lo.result ≡ le (take 8 bs) = c.before.before.before.read_u64-lo.ensures ∙ ap le (block_at 8 bs 0 (omega arith)) in let hi : c.before.read_u64-hi.result ≡ le (take 8 (drop 8 bs)) = c.before.read_u64-hi.ensures ∙ ap le (block_at 8 bs 8 (omega arith)) in let test : leb (2 ^ 62) (le (take 8 (drop 8 bs))) ≡ reserved (words_of bs) = reserved_test (words_of bs) (subst (λ (n : ℕ). n < 2 ^ 64) hi c.before.read_u64-hi.type_inv) in let off : reserved (words_of bs) ≡ false = sym test ∙ lt-leb _ _ (subst (λ (n : ℕ). n < 2 ^ 62) hi c.if-hi-lt-RESERVED.true) in (simp off, simp off (ap₂ (λ (p q : ℕ). p ∷ q ∷ []) lo hi))
 
-returns-2 : tie.Need-returns-2
-returns-2 c = let bs = c.before.before.before.before.before.args.t1 in let long : length bs ≡ 16 = search rules in let lo : c.before.before.before.read_u64.result ≡ le (take 8 bs) = c.before.before.before.read_u64.ensures ∙ ap le (block_at 8 bs 0 (omega arith)) in let hi : c.before.read-u642.result ≡ le (take 8 (drop 8 bs)) = c.before.read-u642.ensures ∙ ap le (block_at 8 bs 8 (omega arith)) in let test : leb (2 ^ 62) (le (take 8 (drop 8 bs))) ≡ reserved (words_of bs) = reserved_test (words_of bs) (subst (λ (n : ℕ). n < 2 ^ 64) hi c.before.read-u642.type-inv) in let on : reserved (words_of bs) ≡ true = sym test ∙ le-leb _ _ (subst (λ (n : ℕ). 2 ^ 62 ≤ n) hi c.if1.false) in (simp on, simp on)
+returns-2 : tie.Need-returns
+returns-2 c = let bs = c.before.before.before.before.before.args.bytes-1 in let long : length bs ≡ 16 = search rules in let lo : c.before.before.before.read_u64-lo.result ≡ le (take 8 bs) = c.before.before.before.read_u64-lo.ensures ∙ ap le (block_at 8 bs 0 (omega arith)) in let hi : c.before.read_u64-hi.result ≡ le (take 8 (drop 8 bs)) = c.before.read_u64-hi.ensures ∙ ap le (block_at 8 bs 8 (omega arith)) in let test : leb (2 ^ 62) (le (take 8 (drop 8 bs))) ≡ reserved (words_of bs) = reserved_test (words_of bs) (subst (λ (n : ℕ). n < 2 ^ 64) hi c.before.read_u64-hi.type_inv) in let on : reserved (words_of bs) ≡ true = sym test ∙ le-leb _ _ (subst (λ (n : ℕ). 2 ^ 62 ≤ n) hi c.if-hi-lt-RESERVED.false) in (simp on, simp on)
 
-pub from-bytes-spec : {M : Type 1} → statement M
-from-bytes-spec =
+pub from_bytes_spec : {M : Type 1} → statement M
+from_bytes_spec =
     tie.close
     (tie.spec
     slice-aggregate-read-u64

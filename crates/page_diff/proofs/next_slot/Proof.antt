@@ -10,38 +10,38 @@ use borrow.Author.Rules.{rules}
 use Rattle.page_diff.proofs.next_slot.Statement.{statement}
 use Rattle.page_diff.proofs.next_slot.Tie as tie
 
-element-copy-out-lo : tie.Need-element-copy-out-lo
+element-copy-out-lo : tie.Need-bounds-d-0
 element-copy-out-lo c = search rules
 
-element-copy-out-hi : tie.Need-element-copy-out-hi
+element-copy-out-hi : tie.Need-bounds-d-1
 element-copy-out-hi c = search rules
 
-sub-t13 : tie.Need-overflow-sub-t13
+sub-t13 : tie.Need-overflow_sub-low
 sub-t13 c = search rules
 
-cast-t16 : tie.Need-overflow-cast-t16
-cast-t16 c = omega (arith, trailing_le 64 (get_or c.before.before.before.args.t1.words 0 0))
+cast-t16 : tie.Need-overflow_cast-result
+cast-t16 c = omega (arith, trailing_le 64 (get_or c.before.before.before.args.d.words 0 0))
 
-returns : tie.Need-returns
-returns c = let ws = c.before.before.before.args.t1.words in let f : Fits w64 (get_or ws 0 0) = search rules in let g : Fits w64 (get_or ws 1 0) = search rules in (sym (low_first ws f.fits g.fits c.if1.true), low-rest ws f.fits g.fits c.if1.true)
+returns : tie.Need-returns-then-lo-ne0
+returns c = let ws = c.before.before.before.args.d.words in let f : Fits w64 (get_or ws 0 0) = search rules in let g : Fits w64 (get_or ws 1 0) = search rules in (sym (low_first ws f.fits g.fits c.if-lo-ne0.true), low-rest ws f.fits g.fits c.if-lo-ne0.true)
 
-sub-t18 : tie.Need-overflow-sub-t18
+sub-t18 : tie.Need-overflow_sub-high
 sub-t18 c = search rules
 
-cast-t21 : tie.Need-overflow-cast-t21
-cast-t21 c = omega (arith, trailing_le 64 (get_or c.before.before.before.before.args.t1.words 1 0))
+cast-t21 : tie.Need-overflow_cast-result-then-hi-ne0
+cast-t21 c = omega (arith, trailing_le 64 (get_or c.before.before.before.before.args.d.words 1 0))
 
-add-t22 : tie.Need-overflow-add-t22
-add-t22 c = omega (arith, trailing_le 64 (get_or c.before.before.before.before.args.t1.words 1 0))
+add-t22 : tie.Need-overflow_add-result
+add-t22 c = omega (arith, trailing_le 64 (get_or c.before.before.before.before.args.d.words 1 0))
 
-returns-2 : tie.Need-returns-2
-returns-2 c = let ws = c.before.before.before.before.args.t1.words in let f : Fits w64 (get_or ws 0 0) = search rules in let g : Fits w64 (get_or ws 1 0) = search rules in (sym (high-first ws f.fits g.fits c.before.if1.false c.if2.true), high-rest ws f.fits g.fits c.before.if1.false c.if2.true)
+returns-2 : tie.Need-returns-then-hi-ne0
+returns-2 c = let ws = c.before.before.before.before.args.d.words in let f : Fits w64 (get_or ws 0 0) = search rules in let g : Fits w64 (get_or ws 1 0) = search rules in (sym (high-first ws f.fits g.fits c.before.if-lo-ne0.false c.if-hi-ne0.true), high-rest ws f.fits g.fits c.before.if-lo-ne0.false c.if-hi-ne0.true)
 
-returns-3 : tie.Need-returns-3
-returns-3 c = let ws = c.before.before.before.before.args.t1.words in let f : Fits w64 (get_or ws 0 0) = search rules in let g : Fits w64 (get_or ws 1 0) = search rules in let long : length ws ≡ 2 = search rules in (sym (no-first ws f.fits g.fits c.before.if1.false c.if2.false), no-rest ws f.fits g.fits long c.before.if1.false c.if2.false)
+returns-3 : tie.Need-returns
+returns-3 c = let ws = c.before.before.before.before.args.d.words in let f : Fits w64 (get_or ws 0 0) = search rules in let g : Fits w64 (get_or ws 1 0) = search rules in let long : length ws ≡ 2 = search rules in (sym (no-first ws f.fits g.fits c.before.if-lo-ne0.false c.if-hi-ne0.false), no-rest ws f.fits g.fits long c.before.if-lo-ne0.false c.if-hi-ne0.false)
 
-pub next-slot-spec : {M : Type 1} → statement M
-next-slot-spec =
+pub next_slot_spec : {M : Type 1} → statement M
+next_slot_spec =
     tie.close
     (tie.spec
     element-copy-out-lo

@@ -16,7 +16,7 @@ use Rattle.page_diff.proofs.pack_into.Statement.{statement}
 use Rattle.page_diff.proofs.pack_into.Tie as tie
 
 -- past the tests
-module _ (c : tie.After-count) where
+module _ (c : tie.After-count-count) where
   abbrev ws : List ℕ
   ws = c.before.before.before.before.before.before.before.args.d.words
 
@@ -24,75 +24,75 @@ module _ (c : tie.After-count) where
   page = c.before.before.before.before.before.before.before.args.page.now
 
   abbrev memory : List ℕ
-  memory = c.before.before.before.before.before.before.before.args.nodes.now
+  memory = c.before.before.before.before.before.before.before.args.nodes-1.now
 
   a-page : length page ≡ 4096
-  a-page = c.before.before.before.before.if1.false
+  a-page = c.before.before.before.before.if-page-ne-PAGE_SIZE.false
 
   plain : reserved ws ≡ false
-  plain = sym c.before.before.before.is-reserved.ensures ∙ c.before.before.if2.false
+  plain = sym c.before.before.before.is_reserved.ensures ∙ c.before.before.if-is_reserved.false
 
   long : length memory ≡ 4032
-  long = c.before.if3.false
+  long = c.before.if-nodes-ne-NODES_SIZE.false
 
   few : count_of ws ≤ 126
   few = plain_count ws plain
 
-returns : tie.Need-returns
+returns : tie.Need-returns-then-page-ne-PAGE_SIZE
 returns c =
     let a = c.before.before.before.args in
-    let e = into-page a.d.words a.page.now a.nodes.now c.if1.true in
-    (sym e, into-left a.d.words a.page.now a.nodes.now 2 e)
+    let e = into-page a.d.words a.page.now a.nodes-1.now c.if-page-ne-PAGE_SIZE.true in
+    (sym e, into-left a.d.words a.page.now a.nodes-1.now 2 e)
 
-is-reserved-requires : tie.Need-is-reserved-requires
+is-reserved-requires : tie.Need-is_reserved-requires
 is-reserved-requires c κs = search rules
 
-returns-2 : tie.Need-returns-2
+returns-2 : tie.Need-returns-then-is_reserved
 returns-2 c =
     let a = c.before.before.before.before.before.args in
-    let e = into-marks a.d.words a.page.now a.nodes.now c.before.before.if1.false (sym c.before.is-reserved.ensures ∙ c.if2.true) in
-    (sym e, into-left a.d.words a.page.now a.nodes.now 4 e)
+    let e = into-marks a.d.words a.page.now a.nodes-1.now c.before.before.if-page-ne-PAGE_SIZE.false (sym c.before.is_reserved.ensures ∙ c.if-is_reserved.true) in
+    (sym e, into-left a.d.words a.page.now a.nodes-1.now 4 e)
 
-returns-3 : tie.Need-returns-3
+returns-3 : tie.Need-returns-then-nodes-ne-NODES_SIZE
 returns-3 c =
     let tests = c.before.before in
     let a = tests.before.before.before.before.args in
     let e =
-    into_memory a.d.words a.page.now a.nodes.now tests.before.if1.false (sym tests.is-reserved.ensures ∙ c.before.if2.false) c.if3.true
+    into_memory a.d.words a.page.now a.nodes-1.now tests.before.if-page-ne-PAGE_SIZE.false (sym tests.is_reserved.ensures ∙ c.before.if-is_reserved.false) c.if-nodes-ne-NODES_SIZE.true
     in
-    (sym e, into-left a.d.words a.page.now a.nodes.now 2 e)
+    (sym e, into-left a.d.words a.page.now a.nodes-1.now 2 e)
 
-count-requires : tie.Need-count-requires
+count-requires : tie.Need-count-count-requires
 count-requires c κs = search rules
 
-mul-used : tie.Need-overflow-mul-used
-mul-used c = omega (arith, c.count.ensures, few c)
+mul-used : tie.Need-overflow_mul-used
+mul-used c = omega (arith, c.count-count.ensures, few c)
 
-put-page-nodes-requires : tie.Need-put-page-nodes-requires
+put-page-nodes-requires : tie.Need-put_page_nodes-requires
 put-page-nodes-requires c κs = search rules
 
-sub-put-zeros : tie.Need-overflow-sub-put-zeros
-sub-put-zeros c = let at = c.before.before.before.before.before in omega (arith, at.count.ensures, few at)
+sub-put-zeros : tie.Need-overflow_sub-used
+sub-put-zeros c = let at = c.before.before.before.before.before in omega (arith, at.count-count.ensures, few at)
 
-put-zeros-requires : tie.Need-put-zeros-requires
+put-zeros-requires : tie.Need-put_zeros-requires
 put-zeros-requires c κs = search rules
 
-same_length : tie.Need-same-length
+same_length : tie.Need-shape_of-nodes
 same_length c = search rules
 
-returns-4 : tie.Need-returns-4
+returns-4 : tie.Need-returns
 returns-4 c =
     let zeroed = c.before.before in
     let put-there = zeroed.before.before.before.before in
     let at = put-there.before.before in
-    let used : ℕ = 32 * at.count.result in (
-      ap given at.count.ensures ∙ sym (into-done (ws at) (page at) (memory at) (a-page at) (plain at) (long at)),
-      zeroed.put-zeros.ensures ∙ ap (λ (l : List ℕ). put l used (replicate (4032 - used) 0)) (put-there.put-page-nodes.ensures ∙ nodes_plain (memory at) 0 (ws at) (page at) (plain at))
-          ∙ into-bytes (ws at) (page at) (memory at) used (ap (λ (k : ℕ). 32 * k) at.count.ensures) (a-page at) (plain at) (long at),
+    let used : ℕ = 32 * at.count-count.result in (
+      ap given at.count-count.ensures ∙ sym (into-done (ws at) (page at) (memory at) (a-page at) (plain at) (long at)),
+      zeroed.put_zeros.ensures ∙ ap (λ (l : List ℕ). put l used (replicate (4032 - used) 0)) (put-there.put_page_nodes.ensures ∙ nodes_plain (memory at) 0 (ws at) (page at) (plain at))
+          ∙ into-bytes (ws at) (page at) (memory at) used (ap (λ (k : ℕ). 32 * k) at.count-count.ensures) (a-page at) (plain at) (long at),
     )
 
-pub pack-into-spec : {M : Type 1} → statement M
-pack-into-spec =
+pub pack_into_spec : {M : Type 1} → statement M
+pack_into_spec =
     tie.close
     (tie.spec
     returns

@@ -12,69 +12,69 @@ use Rattle.page_diff.proofs.Nodes.{Nodes, nodes_start, nodes-length, page_turn, 
 use Rattle.page_diff.proofs.put_marked_nodes.Statement.{statement}
 use Rattle.page_diff.proofs.put_marked_nodes.Tie as tie
 
-abbrev invariant-loop : tie.invariant-loop
+abbrev invariant-loop : tie.invariant-loop-next
 invariant-loop s₀ at page c₀ left₀ s c left = Walk left₀.words left.words c × Nodes s₀ at (map (node_at page) (slots left₀.words)) s c
 
-abbrev decreases-loop : tie.decreases-loop
+abbrev decreases-loop : tie.decreases-loop-next
 decreases-loop s₀ at page c₀ left₀ s c left = count_of left₀.words - c
 
 -- in a turn there is a slot left
-module _ (c : tie.Else1 invariant-loop decreases-loop) where
-  abbrev at-loop : tie.At-loop invariant-loop decreases-loop
+module _ (c : tie.Else-slot-ge-NODES_PER_PAGE invariant-loop decreases-loop) where
+  abbrev at-loop : tie.At-loop-next invariant-loop decreases-loop
   at-loop = c.before.before
 
-  on : at-loop.loop.c < count_of at-loop.before.before.before.args.d.words
-  on = walk-on at-loop.before.before.before.args.d.words at-loop.loop.left.words at-loop.loop.c c.before.next-slot.result.slot at-loop.loop.inv.0 c.before.next-slot.ensures.0 (omega arith)
+  on : at-loop.loop-next.c < count_of at-loop.before.before.before.args.d.words
+  on = walk-on at-loop.before.before.before.args.d.words at-loop.loop-next.left-1.words at-loop.loop-next.c c.before.next_slot-next.result.slot at-loop.loop-next.inv.0 c.before.next_slot-next.ensures.0 (omega arith)
 
-  few : at-loop.loop.c < 126
+  few : at-loop.loop-next.c < 126
   few = omega (arith, on, plain_count at-loop.before.before.before.args.d.words at-loop.before.before.before.pre.0)
 
-loop-holds : tie.Need-loop-init invariant-loop decreases-loop
+loop-holds : tie.Need-loop-next-init invariant-loop decreases-loop
 loop-holds c =
     let start = c.before.before in
     let args = start.args in
-    (walk_start args.d.words, nodes_start args.s.now args.at (map (node_at args.page.now) (slots args.d.words)) (omega (arith, start.requires.1)))
+    (walk_start args.d.words, nodes_start args.s-1.now args.at (map (node_at args.page.now) (slots args.d.words)) (omega (arith, start.requires.1)))
 
-next-slot-requires : tie.Need-next-slot-requires invariant-loop decreases-loop
+next-slot-requires : tie.Need-next_slot-next-requires invariant-loop decreases-loop
 next-slot-requires c κs = tt
 
-same_length : tie.Need-same-length invariant-loop decreases-loop
+same_length : tie.Need-shape_of-s-then-slot-ge-NODES_PER_PAGE invariant-loop decreases-loop
 same_length c =
     let at-loop = c.before.before in
     let args = at-loop.before.before.before.args in
-    nodes-length args.s.now args.at (map (node_at args.page.now) (slots args.d.words)) at-loop.loop.s at-loop.loop.c at-loop.loop.invariant.1
+    nodes-length args.s-1.now args.at (map (node_at args.page.now) (slots args.d.words)) at-loop.loop-next.s-1 at-loop.loop-next.c at-loop.loop-next.invariant.1
 
-returns : tie.Need-returns invariant-loop decreases-loop
+returns : tie.Need-returns-then-slot-ge-NODES_PER_PAGE invariant-loop decreases-loop
 returns c =
     let at-loop = c.before.before in
     let start = at-loop.before.before.before in
     let args = start.args in
     let ws = args.d.words in
-    nodes_end args.s.now args.at (map (node_at args.page.now) (slots ws)) at-loop.loop.s at-loop.loop.c at-loop.loop.invariant.1
-    (walk_end ws at-loop.loop.left.words at-loop.loop.c c.before.next-slot.result.slot at-loop.loop.invariant.0 c.before.next-slot.ensures.0 start.requires.0 c.if1.true ∙ sym (length-map (slots ws) (node_at args.page.now)))
+    nodes_end args.s-1.now args.at (map (node_at args.page.now) (slots ws)) at-loop.loop-next.s-1 at-loop.loop-next.c at-loop.loop-next.invariant.1
+    (walk_end ws at-loop.loop-next.left-1.words at-loop.loop-next.c c.before.next_slot-next.result.slot at-loop.loop-next.invariant.0 c.before.next_slot-next.ensures.0 start.requires.0 c.if-slot-ge-NODES_PER_PAGE.true ∙ sym (length-map (slots ws) (node_at args.page.now)))
 
-mul-put-32 : tie.Need-overflow-mul-put-32 invariant-loop decreases-loop
+mul-put-32 : tie.Need-overflow_mul-c invariant-loop decreases-loop
 mul-put-32 c = omega (arith, few c.before)
 
-add-put-32 : tie.Need-overflow-add-put-32 invariant-loop decreases-loop
+add-put-32 : tie.Need-overflow_add-at invariant-loop decreases-loop
 add-put-32 c = omega (arith, on c.before, c.before.before.before.before.before.before.requires.1)
 
-mul-block-32 : tie.Need-overflow-mul-block-32 invariant-loop decreases-loop
+mul-block-32 : tie.Need-overflow_mul-slot invariant-loop decreases-loop
 mul-block-32 c = omega arith
 
-block-32-requires : tie.Need-block-32-requires invariant-loop decreases-loop
+block-32-requires : tie.Need-block_32-requires invariant-loop decreases-loop
 block-32-requires c κs = tt
 
-put-32-requires : tie.Need-put-32-requires invariant-loop decreases-loop
+put-32-requires : tie.Need-put_32-requires invariant-loop decreases-loop
 put-32-requires c κs = tt
 
-add-c : tie.Need-overflow-add-c invariant-loop decreases-loop
+add-c : tie.Need-overflow_add-c invariant-loop decreases-loop
 add-c c = omega (arith, few c.before.before.before.before.before)
 
-loop-less : tie.Need-loop-smaller invariant-loop decreases-loop
+loop-less : tie.Need-loop-next-smaller invariant-loop decreases-loop
 loop-less c = omega (arith, on c.before.before.before.before.before.before)
 
-loop-again : tie.Need-loop-preserved invariant-loop decreases-loop
+loop-again : tie.Need-loop-next-preserved invariant-loop decreases-loop
 loop-again c =
     let called = c.before.before.before in
     let node = called.before in
@@ -83,15 +83,15 @@ loop-again c =
     let start = at-loop.before.before.before in
     let args = start.args in
     let ws = args.d.words in
-    let s = turn.before.next-slot.result.slot in
-    let k = at-loop.loop.c in (
-      walk_step ws at-loop.loop.left.words k s at-loop.loop.invariant.0 turn.before.next-slot.ensures.0 turn.before.next-slot.result.rest.words (omega arith) turn.before.next-slot.ensures.1,
-      page_turn args.s.now args.at args.page.now (slots ws) at-loop.loop.s k s at-loop.loop.invariant.1 (walk_at ws at-loop.loop.left.words k s at-loop.loop.invariant.0 turn.before.next-slot.ensures.0) (on turn) (omega (arith, on turn, start.requires.1))
-          called.put_32.new.0 (called.put_32.ensures.0 ∙ ap (λ (n : List ℕ). put at-loop.loop.s (args.at + 32 * k) n) node.block-32.ensures),
+    let s = turn.before.next_slot-next.result.slot in
+    let k = at-loop.loop-next.c in (
+      walk_step ws at-loop.loop-next.left-1.words k s at-loop.loop-next.invariant.0 turn.before.next_slot-next.ensures.0 turn.before.next_slot-next.result.rest.words (omega arith) turn.before.next_slot-next.ensures.1,
+      page_turn args.s-1.now args.at args.page.now (slots ws) at-loop.loop-next.s-1 k s at-loop.loop-next.invariant.1 (walk_at ws at-loop.loop-next.left-1.words k s at-loop.loop-next.invariant.0 turn.before.next_slot-next.ensures.0) (on turn) (omega (arith, on turn, start.requires.1))
+          called.put_32.new.0 (called.put_32.ensures.0 ∙ ap (λ (n : List ℕ). put at-loop.loop-next.s-1 (args.at + 32 * k) n) node.block_32.ensures),
     )
 
-pub put-marked-nodes-spec : {M : Type 1} → statement M
-put-marked-nodes-spec =
+pub put_marked_nodes_spec : {M : Type 1} → statement M
+put_marked_nodes_spec =
     tie.close
     (tie.spec
     invariant-loop

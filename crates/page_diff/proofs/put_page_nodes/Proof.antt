@@ -12,7 +12,7 @@ use Rattle.page_diff.proofs.put_page_nodes.Statement.{statement}
 use Rattle.page_diff.proofs.put_page_nodes.Tie as tie
 
 -- past the first test: a diff of nodes alone, with its count
-module _ (c : tie.After-count) where
+module _ (c : tie.After-count-size) where
   abbrev start : tie.Start
   start = c.before.before.before.before.before
 
@@ -23,49 +23,49 @@ module _ (c : tie.After-count) where
   page = start.args.page.now
 
   abbrev s : List ℕ
-  s = start.args.s.now
+  s = start.args.s-1.now
 
   plain : reserved ws ≡ false
-  plain = sym c.before.before.is-reserved.ensures ∙ c.before.if1.false
+  plain = sym c.before.before.is_reserved.ensures ∙ c.before.if-is_reserved.false
 
   few : count_of ws ≤ 126
   few = plain_count ws plain
 
-  counted : c.count.result ≡ count_of ws
-  counted = c.count.ensures
+  counted : c.count-size.result ≡ count_of ws
+  counted = c.count-size.ensures
 
-is-reserved-requires : tie.Need-is-reserved-requires
+is-reserved-requires : tie.Need-is_reserved-requires
 is-reserved-requires c κs = search rules
 
-returns : tie.Need-returns
-returns c = let a = c.before.before.before.before.args in sym (nodes_none a.s.now a.at a.d.words a.page.now (sym c.before.is-reserved.ensures ∙ c.if1.true))
+returns : tie.Need-returns-then-is_reserved
+returns c = let a = c.before.before.before.before.args in sym (nodes_none a.s-1.now a.at a.d.words a.page.now (sym c.before.is_reserved.ensures ∙ c.if-is_reserved.true))
 
-count-requires : tie.Need-count-requires
+count-requires : tie.Need-count-size-requires
 count-requires c κs = search rules
 
-mul-size : tie.Need-overflow-mul-size
+mul-size : tie.Need-overflow_mul-size
 mul-size c = omega (arith, counted c, few c)
 
-returns-2 : tie.Need-returns-2
-returns-2 c = let t = c.before in sym (nodes_short (s t) (start t).args.at (ws t) (page t) (plain t) (omega (arith, counted t, c.if2.true)))
+returns-2 : tie.Need-returns-then-s-size
+returns-2 c = let t = c.before in sym (nodes_short (s t) (start t).args.at (ws t) (page t) (plain t) (omega (arith, counted t, c.if-s-size.true)))
 
-sub-if3 : tie.Need-overflow-sub-if3
+sub-if3 : tie.Need-overflow_sub-s
 sub-if3 c = search rules
 
-returns-3 : tie.Need-returns-3
-returns-3 c = let t = c.before.before in sym (nodes_short (s t) (start t).args.at (ws t) (page t) (plain t) (omega (arith, counted t, c.before.if2.false, c.if3.true)))
+returns-3 : tie.Need-returns-then-s-size-2
+returns-3 c = let t = c.before.before in sym (nodes_short (s t) (start t).args.at (ws t) (page t) (plain t) (omega (arith, counted t, c.before.if-s-size.false, c.if-s-size-2.true)))
 
-put-marked-nodes-requires : tie.Need-put-marked-nodes-requires
-put-marked-nodes-requires c κs = let t = c.before.before.before in (plain t, omega (arith, counted t, c.before.before.if2.false, c.before.if3.false))
+put-marked-nodes-requires : tie.Need-put_marked_nodes-requires
+put-marked-nodes-requires c κs = let t = c.before.before.before in (plain t, omega (arith, counted t, c.before.before.if-s-size.false, c.before.if-s-size-2.false))
 
-same_length : tie.Need-same-length
+same_length : tie.Need-shape_of-s
 same_length c = search rules
 
-returns-4 : tie.Need-returns-4
-returns-4 c = let t = c.before.before.before.before.before.before in c.before.before.put-marked-nodes.ensures ∙ sym (nodes_plain (s t) (start t).args.at (ws t) (page t) (plain t))
+returns-4 : tie.Need-returns
+returns-4 c = let t = c.before.before.before.before.before.before in c.before.before.put_marked_nodes.ensures ∙ sym (nodes_plain (s t) (start t).args.at (ws t) (page t) (plain t))
 
-pub put-page-nodes-spec : {M : Type 1} → statement M
-put-page-nodes-spec =
+pub put_page_nodes_spec : {M : Type 1} → statement M
+put_page_nodes_spec =
     tie.close
     (tie.spec
     is-reserved-requires
