@@ -7,5 +7,5 @@ use Rattle.meta_map.proofs.hint_empty.Tie as tie
 returns : tie.Need-returns
 returns c = sym (kind_empty c.args.tag)
 
-pub hint-empty-spec : {M : Type 1} → statement M
-hint-empty-spec = tie.close (tie.spec returns)
+pub hint_empty_spec : {M : Type 1} → statement M
+hint_empty_spec = tie.close (tie.spec returns)

@@ -7,11 +7,11 @@ use borrow.Author.Rules.{rules}
 use Rattle.meta_map.proofs.hint_not_match.Statement.{statement}
 use Rattle.meta_map.proofs.hint_not_match.Tie as tie
 
-full-entry-requires : tie.Need-full-entry-requires
+full-entry-requires : tie.Need-full_entry-requires
 full-entry-requires c κs = search rules
 
 returns : tie.Need-returns
-returns c = ap (λ (t : ℕ). not (eqb c.before.args.tag t)) c.full-entry.ensures
+returns c = ap (λ (t : ℕ). not (eqb c.before.args.tag t)) c.full_entry.ensures
 
-pub hint-not-match-spec : {M : Type 1} → statement M
-hint-not-match-spec = tie.close (tie.spec full-entry-requires returns)
+pub hint_not_match_spec : {M : Type 1} → statement M
+hint_not_match_spec = tie.close (tie.spec full-entry-requires returns)

@@ -7,5 +7,5 @@ use Rattle.meta_map.proofs.hint_tombstone.Tie as tie
 returns : tie.Need-returns
 returns c = sym (kind_tombstone c.args.tag)
 
-pub hint-tombstone-spec : {M : Type 1} → statement M
-hint-tombstone-spec = tie.close (tie.spec returns)
+pub hint_tombstone_spec : {M : Type 1} → statement M
+hint_tombstone_spec = tie.close (tie.spec returns)

@@ -7,5 +7,5 @@ use Rattle.meta_map.proofs.is_full.Tie as tie
 returns : tie.Need-returns
 returns c = sym (kind_full c.args.tag)
 
-pub is-full-spec : {M : Type 1} → statement M
-is-full-spec = tie.close (tie.spec returns)
+pub is_full_spec : {M : Type 1} → statement M
+is_full_spec = tie.close (tie.spec returns)
