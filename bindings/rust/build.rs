@@ -40,8 +40,13 @@ fn main() {
 
 /// The folder of the library that the repository's sources give; it is made where it has to be.
 fn made(root: &Path) -> PathBuf {
-    for source in ["crates", "crates.txt", "bindings/library", "bindings/make", "bindings/exports"] {
+    for source in ["crates.txt", "bindings/library", "bindings/make", "bindings/exports"] {
         println!("cargo:rerun-if-changed={}", root.join(source).display());
+    }
+    // What rt writes is in each crate's out/, and says nothing of the sources.
+    let folders = |of: &Path| fs::read_dir(of).into_iter().flatten().flatten().map(|entry| entry.path());
+    for source in folders(&root.join("crates")).flat_map(|of| folders(&of)).filter(|path| !path.ends_with("out")) {
+        println!("cargo:rerun-if-changed={}", source.display());
     }
     match Command::new(root.join("bindings/library")).status() {
         Ok(status) if status.success() => root.join("target/staticlib"),

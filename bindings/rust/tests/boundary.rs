@@ -17,7 +17,7 @@ fn sources() -> Declared {
 
 #[test]
 fn the_library_exports_what_is_known() {
-    assert_eq!(sources().functions.len(), LIBRARY.matches("#[no_mangle]").count());
+    assert_eq!(sources().functions.len(), LIBRARY.matches("#[unsafe(no_mangle)]").count());
     let known = (sources().functions.len(), sources().structs.len());
     assert_eq!(known, (50, 21), "what is new wants a declaration, a safe call, a line in the header and tests");
 }

@@ -75,7 +75,7 @@ fn no_public_function_asks_anything_of_its_caller() {
         let public = ["\npub fn ", "\npub extern \"C\" fn ", "\n    pub fn "];
         for function in public.into_iter().flat_map(|start| text.split(start).skip(1)) {
             let head: Vec<&str> = function.lines().take_while(|l| l.trim() != "{").collect();
-            assert!(!head.iter().any(|l| l.contains("requires {")), "{} has a requires", head[0]);
+            assert!(!head.iter().any(|l| l.trim_start().starts_with("requires ")), "{} has a requires", head[0]);
             seen += 1;
         }
     }

@@ -28,7 +28,7 @@ use Rattle.recover.specs.declared.Stepped.{Stepped}
 use Rattle.recover.specs.declared.Stepped.TheVariants as S
 use Rattle.recover.specs.contracts.Stepped as SteppedT
 use Rattle.recover.proofs.Demand3.{replayed_none, replayed-snoc, replayed-length}
-use Rattle.recover.proofs.Steps.{step-taken, by_next, image-by}
+use Rattle.recover.proofs.Steps.{step-taken, by_next_lem, image-by}
 
 -- at the head of the loop: the first k entries are applied to the table, and what is read from here on are the others
 pub record RunState (rule : AfterEnd) (n : ℕ) (log hashes table image : List ℕ) (at used k : ℕ) : Type 0 where
@@ -169,7 +169,7 @@ module _ (rule : AfterEnd) (n : ℕ) (log hashes table image : List ℕ) (at use
           let z : given (cleared p) ≡ given (updated q) = a ∙ sym s.0 in
           let y : ◌≡◌ {A = ℕ} 0 1 = cc in absurd (omega arith)
       go ended h =
-          let z : given (cleared p) ≡ given at_end = a ∙ by_next rule n image (edition_at log) log at (get_or hashes used 0) fits ended h in
+          let z : given (cleared p) ≡ given at_end = a ∙ by_next_lem rule n image (edition_at log) log at (get_or hashes used 0) fits ended h in
           let y : ◌≡◌ {A = ℕ} 0 1 = cc in absurd (omega arith)
       go (stopped k) h = absurd (no_stop k h)
 
@@ -192,7 +192,7 @@ module _ (rule : AfterEnd) (n : ℕ) (log hashes table image : List ℕ) (at use
           let z : given (updated p) ≡ given (cleared q) = a ∙ sym s.0 in
           let y : ◌≡◌ {A = ℕ} 0 1 = cc in absurd (omega arith)
       go ended h =
-          let z : given (updated p) ≡ given at_end = a ∙ by_next rule n image (edition_at log) log at (get_or hashes used 0) fits ended h in
+          let z : given (updated p) ≡ given at_end = a ∙ by_next_lem rule n image (edition_at log) log at (get_or hashes used 0) fits ended h in
           let y : ◌≡◌ {A = ℕ} 0 1 = cc in absurd (omega arith)
       go (stopped k) h = absurd (no_stop k h)
 
@@ -244,7 +244,7 @@ module _ (rule : AfterEnd) (n : ℕ) (log hashes table image : List ℕ) (at use
       go ended h =
           let left = ended-left h in
           let r = read_end rule (edition_at log) log at h in
-          subst (λ (a : Answer Went). Stands (moved_by a (step_image rule n image (edition_at log) log at hash) here)) (sym (by_next rule n image (edition_at log) log at hash fits ended h))
+          subst (λ (a : Answer Went). Stands (moved_by a (step_image rule n image (edition_at log) log at hash) here)) (sym (by_next_lem rule n image (edition_at log) log at hash fits ended h))
           (record {
             made = image-by rule n image (edition_at log) log at hash fits ended h ∙ st.made ∙ ap (λ (l : List Step). replayed n l table) (sym left.1);
             left = left.2 ∙ sym (ap (λ (x : Reading). with_hashes x.entries (drop used hashes)) r);
@@ -259,5 +259,5 @@ module _ (rule : AfterEnd) (n : ℕ) (log hashes table image : List ℕ) (at use
     where
       go : (x : Next) → next_by rule (edition_at log) log at ≡ x → accepted (step_answer rule n image (edition_at log) log at) ≡ true
       go (next e p) h = ap accepted (sym (step-taken rule n image (edition_at log) log at (get_or hashes used 0) fits e p h (entry-inside e p h).0).0)
-      go ended h = ap accepted (by_next rule n image (edition_at log) log at (get_or hashes used 0) fits ended h)
+      go ended h = ap accepted (by_next_lem rule n image (edition_at log) log at (get_or hashes used 0) fits ended h)
       go (stopped q) h = absurd (no_stop q h)

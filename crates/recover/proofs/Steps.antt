@@ -44,19 +44,19 @@ module _ (rule : AfterEnd) (n : ℕ) (image : List ℕ) (ed : Edition) (log : Li
       (a, ap (λ (x : Answer Went). cond (accepted x) (step_by n (next_by rule ed log at) h image) image) a)
 
   module _ (fits : image_fits n (length image) ≡ true) where
-    pub by_next : (x : Next) → next_by rule ed log at ≡ x → step_answer rule n image ed log at ≡ by_next n x
+    pub by_next_lem : (x : Next) → next_by rule ed log at ≡ x → step_answer rule n image ed log at ≡ by_next n x
     unfolding step_answer
-    by_next x e = ap (λ (t : Bool). cond t (by_next n (next_by rule ed log at)) (refused 1)) fits ∙ ap (by_next n) e
+    by_next_lem x e = ap (λ (t : Bool). cond t (by_next n (next_by rule ed log at)) (refused 1)) fits ∙ ap (by_next n) e
 
     pub image-by : (x : Next) → next_by rule ed log at ≡ x → step_image rule n image ed log at h ≡ cond (accepted (by_next n x)) (step_by n x h image) image
     unfolding step_image
-    image-by x e = ap₂ (λ (a : Answer Went) (y : Next). cond (accepted a) (step_by n y h image) image) (by_next x e) e
+    image-by x e = ap₂ (λ (a : Answer Went) (y : Next). cond (accepted a) (step_by n y h image) image) (by_next_lem x e) e
 
     -- an entry outside the table
     pub step-outside : (e : Entry) (p : ℕ) → next_by rule ed log at ≡ next e p → n ≤ bucket_of e → (refused 9 ≡ step_answer rule n image ed log at) × (image ≡ step_image rule n image ed log at h)
     step-outside e p q l =
         let t : ltb (bucket_of e) n ≡ false = le-ltb (bucket_of e) n l in (
-          sym (by_next (next e p) q ∙ ap (λ (b : Bool). cond b (given (went_to e p)) (refused 9)) t),
+          sym (by_next_lem (next e p) q ∙ ap (λ (b : Bool). cond b (given (went_to e p)) (refused 9)) t),
           sym (image-by (next e p) q ∙ ap (λ (b : Bool). cond (accepted (cond b (given (went_to e p)) (refused 9))) (step_by n (next e p) h image) image) t),
         )
 
@@ -64,7 +64,7 @@ module _ (rule : AfterEnd) (n : ℕ) (image : List ℕ) (ed : Edition) (log : Li
     pub step-taken : (e : Entry) (p : ℕ) → next_by rule ed log at ≡ next e p → bucket_of e < n → (given (went_to e p) ≡ step_answer rule n image ed log at) × (stepped n (record { entry = e; hash = h }) image ≡ step_image rule n image ed log at h)
     step-taken e p q l =
         let t : ltb (bucket_of e) n ≡ true = lt-ltb (bucket_of e) n l in (
-          sym (by_next (next e p) q ∙ ap (λ (b : Bool). cond b (given (went_to e p)) (refused 9)) t),
+          sym (by_next_lem (next e p) q ∙ ap (λ (b : Bool). cond b (given (went_to e p)) (refused 9)) t),
           sym (image-by (next e p) q ∙ ap (λ (b : Bool). cond (accepted (cond b (given (went_to e p)) (refused 9))) (step_by n (next e p) h image) image) t),
         )
 
@@ -80,9 +80,9 @@ module _ (rule : AfterEnd) (n : ℕ) (image : List ℕ) (ed : Edition) (log : Li
         none : (t : ℕ) → t ≡ 1 → (t ≡ 0) ⊎ ((t ≡ 2) ⊎ (t ≡ 3)) → ⊥
         none t z = ⊎_elim (λ (y : t ≡ 0). omega arith) (⊎_elim (λ (y : t ≡ 2). omega arith) (λ (y : t ≡ 3). omega arith))
     step-stop head.End e o q =
-        let s = head_end (next_by rule ed log at) e in (sym (by_next ended s), sym (image-by ended s))
+        let s = head_end (next_by rule ed log at) e in (sym (by_next_lem ended s), sym (image-by ended s))
     step-stop (head.Refused r) e o q =
-        let s = head_stop (next_by rule ed log at) (number_of r) e in (sym (by_next (stopped (number_of r)) s), sym (image-by (stopped (number_of r)) s))
+        let s = head_stop (next_by rule ed log at) (number_of r) e in (sym (by_next_lem (stopped (number_of r)) s), sym (image-by (stopped (number_of r)) s))
 
 -- ---- the bytes: what is equal at each place to the definition is it
 stepped_is : (n : ℕ) (s : Step) (image out : List ℕ) → length out ≡ length image → ((j : ℕ) → j < length image → get_or out j 0 ≡ cond (names n s j) (gives n s j) (get_or image j 0)) → out ≡ stepped n s image

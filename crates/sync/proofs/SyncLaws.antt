@@ -13,7 +13,7 @@ use Rattle.sync.specs.declared.Change.{Change}
 use Rattle.sync.specs.declared.Run.{Run}
 use Rattle.sync.specs.declared.SyncStart.{SyncStart}
 use Rattle.sync.specs.declared.SyncAnswer.{SyncAnswer}
-use Rattle.sync.proofs.WalkLaws.{goes_on, goes_on, goes_unbegun}
+use Rattle.sync.proofs.WalkLaws.{goes_on, goes_on_lem, goes_unbegun}
 
 -- the memory with these cells
 abbrev with_cells : List ℕ → Mem → Mem
@@ -73,7 +73,7 @@ module _ (s : SyncStart) (t k c l pages : List ℕ) (cs : List Change) where
       subst (λ (p : Going × Mem). Whole p.0 p.1) same (by_tests (refused j) is)
   by-start (given u) is x e g z walked =
       let same : ◌≡◌ {A = Going × Mem} (g', z') (g, z) =
-      sym (goes_on pages cs (start_mem m start) 0 (start_state n m start)) ∙ ap (λ (y : Mem). goes_on y pages cs 0 (on (start_state n m start))) (sym e) ∙ walked in
+      sym (goes_on_lem pages cs (start_mem m start) 0 (start_state n m start)) ∙ ap (λ (y : Mem). goes_on y pages cs 0 (on (start_state n m start))) (sym e) ∙ walked in
       subst (λ (p : Going × Mem). Whole p.0 p.1) same (by_tests (given u) is)
 
   pub whole : (k' l' : List ℕ) (r₀ r : Run) (z0 z1 z2 z3 : List ℕ) → BeginPromise s lent pages (length cs) r₀ (mem_of t k' [] l')

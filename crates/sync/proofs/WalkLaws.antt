@@ -35,10 +35,10 @@ goes_stopped m pages (c ∷ cs) j i k = goes_stopped m pages cs (j + 1) i k
 abbrev pub came_all : Mem → List ℕ → List Change → ℕ → SyncState → Going × Mem
 came_all m pages cs j st = (going_by (all_of m pages cs j st).came (all_of m pages cs j st).state, mem_all m pages cs j st)
 
-pub goes_on : (pages : List ℕ) (cs : List Change) (m : Mem) (j : ℕ) (st : SyncState) → goes_on m pages cs j (on st) ≡ came_all m pages cs j st
+pub goes_on_lem : (pages : List ℕ) (cs : List Change) (m : Mem) (j : ℕ) (st : SyncState) → goes_on m pages cs j (on st) ≡ came_all m pages cs j st
 unfolding goes_on all_of mem_all change_at
-goes_on pages [] m j st = refl
-goes_on pages (c ∷ cs) m j st = go (change_at m pages c j st).came (change_at m pages c j st).state (change_mem m pages c j st) (goes_on pages cs)
+goes_on_lem pages [] m j st = refl
+goes_on_lem pages (c ∷ cs) m j st = go (change_at m pages c j st).came (change_at m pages c j st).state (change_mem m pages c j st) (goes_on_lem pages cs)
   where
     go : (a : Came) (s : SyncState) (x : Mem) → ((y : Mem) (i : ℕ) (z : SyncState) → goes_on y pages cs i (on z) ≡ came_all y pages cs i z)
         → goes_on x pages cs (j + 1) (going_by a s)

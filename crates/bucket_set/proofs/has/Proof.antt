@@ -7,21 +7,21 @@ use borrow.Author.Rules.{rules}
 use Rattle.bucket_set.proofs.has.Statement.{statement}
 use Rattle.bucket_set.proofs.has.Tie as tie
 
-mul-x : tie.Need-overflow-mul-x
+mul-x : tie.Need-offset_bounds-set-w
 mul-x c = search rules
 
-shared-slice-read-x : tie.Need-shared-slice-read-x
+shared-slice-read-x : tie.Need-bounds-set-w
 shared-slice-read-x c = search rules
 
-shr-result : tie.Need-overflow-shr-result
+shr-result : tie.Need-overflow_shr-result
 shr-result c = search rules
 
-returns : tie.Need-returns
+returns : tie.Need-returns-then-w-set
 unfolding marked
 returns c = refl
 
-returns-2 : tie.Need-returns-2
-returns-2 c = let a = c.before.args in sym (past-has a.set.now a.i (omega (arith, c.if1.false)))
+returns-2 : tie.Need-returns
+returns-2 c = let a = c.before.args in sym (past-has a.set.now a.i (omega (arith, c.if-w-set.false)))
 
-pub has-spec : {M : Type 1} → statement M
-has-spec = tie.close (tie.spec mul-x shared-slice-read-x shr-result returns returns-2)
+pub has_spec : {M : Type 1} → statement M
+has_spec = tie.close (tie.spec mul-x shared-slice-read-x shr-result returns returns-2)

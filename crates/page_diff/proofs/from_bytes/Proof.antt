@@ -28,10 +28,10 @@ read-u64-requires-2 : tie.Need-read_u64-hi-requires
 read-u64-requires-2 c κs = search rules
 
 returns : tie.Need-returns-then-hi-lt-RESERVED
-returns c = let bs = c.before.before.before.before.before.args.bytes-1 in let long : length bs ≡ 16 = search rules in let lo : c.before.before.before.read_u64-lo.result ≡ le (take 8 bs) = c.before.before.before.read_u64-lo.ensures ∙ ap le (block_at 8 bs 0 (omega arith)) in let hi : c.before.read_u64-hi.result ≡ le (take 8 (drop 8 bs)) = c.before.read_u64-hi.ensures ∙ ap le (block_at 8 bs 8 (omega arith)) in let test : leb (2 ^ 62) (le (take 8 (drop 8 bs))) ≡ reserved (words_of bs) = reserved_test (words_of bs) (subst (λ (n : ℕ). n < 2 ^ 64) hi c.before.read_u64-hi.type_inv) in let off : reserved (words_of bs) ≡ false = sym test ∙ lt-leb _ _ (subst (λ (n : ℕ). n < 2 ^ 62) hi c.if-hi-lt-RESERVED.true) in (simp off, simp off (ap₂ (λ (p q : ℕ). p ∷ q ∷ []) lo hi))
+returns c = let bs = c.before.before.before.before.before.args.bytes in let long : length bs ≡ 16 = search rules in let lo : c.before.before.before.read_u64-lo.result ≡ le (take 8 bs) = c.before.before.before.read_u64-lo.ensures ∙ ap le (block_at 8 bs 0 (omega arith)) in let hi : c.before.read_u64-hi.result ≡ le (take 8 (drop 8 bs)) = c.before.read_u64-hi.ensures ∙ ap le (block_at 8 bs 8 (omega arith)) in let test : leb (2 ^ 62) (le (take 8 (drop 8 bs))) ≡ reserved (words_of bs) = reserved_test (words_of bs) (subst (λ (n : ℕ). n < 2 ^ 64) hi c.before.read_u64-hi.type_inv) in let off : reserved (words_of bs) ≡ false = sym test ∙ lt-leb _ _ (subst (λ (n : ℕ). n < 2 ^ 62) hi c.if-hi-lt-RESERVED.true) in (simp off, simp off (ap₂ (λ (p q : ℕ). p ∷ q ∷ []) lo hi))
 
 returns-2 : tie.Need-returns
-returns-2 c = let bs = c.before.before.before.before.before.args.bytes-1 in let long : length bs ≡ 16 = search rules in let lo : c.before.before.before.read_u64-lo.result ≡ le (take 8 bs) = c.before.before.before.read_u64-lo.ensures ∙ ap le (block_at 8 bs 0 (omega arith)) in let hi : c.before.read_u64-hi.result ≡ le (take 8 (drop 8 bs)) = c.before.read_u64-hi.ensures ∙ ap le (block_at 8 bs 8 (omega arith)) in let test : leb (2 ^ 62) (le (take 8 (drop 8 bs))) ≡ reserved (words_of bs) = reserved_test (words_of bs) (subst (λ (n : ℕ). n < 2 ^ 64) hi c.before.read_u64-hi.type_inv) in let on : reserved (words_of bs) ≡ true = sym test ∙ le-leb _ _ (subst (λ (n : ℕ). 2 ^ 62 ≤ n) hi c.if-hi-lt-RESERVED.false) in (simp on, simp on)
+returns-2 c = let bs = c.before.before.before.before.before.args.bytes in let long : length bs ≡ 16 = search rules in let lo : c.before.before.before.read_u64-lo.result ≡ le (take 8 bs) = c.before.before.before.read_u64-lo.ensures ∙ ap le (block_at 8 bs 0 (omega arith)) in let hi : c.before.read_u64-hi.result ≡ le (take 8 (drop 8 bs)) = c.before.read_u64-hi.ensures ∙ ap le (block_at 8 bs 8 (omega arith)) in let test : leb (2 ^ 62) (le (take 8 (drop 8 bs))) ≡ reserved (words_of bs) = reserved_test (words_of bs) (subst (λ (n : ℕ). n < 2 ^ 64) hi c.before.read_u64-hi.type_inv) in let on : reserved (words_of bs) ≡ true = sym test ∙ le-leb _ _ (subst (λ (n : ℕ). 2 ^ 62 ≤ n) hi c.if-hi-lt-RESERVED.false) in (simp on, simp on)
 
 pub from_bytes_spec : {M : Type 1} → statement M
 from_bytes_spec =

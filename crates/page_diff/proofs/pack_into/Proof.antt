@@ -24,7 +24,7 @@ module _ (c : tie.After-count-count) where
   page = c.before.before.before.before.before.before.before.args.page.now
 
   abbrev memory : List ℕ
-  memory = c.before.before.before.before.before.before.before.args.nodes-1.now
+  memory = c.before.before.before.before.before.before.before.args.nodes.now
 
   a-page : length page ≡ 4096
   a-page = c.before.before.before.before.if-page-ne-PAGE_SIZE.false
@@ -41,8 +41,8 @@ module _ (c : tie.After-count-count) where
 returns : tie.Need-returns-then-page-ne-PAGE_SIZE
 returns c =
     let a = c.before.before.before.args in
-    let e = into-page a.d.words a.page.now a.nodes-1.now c.if-page-ne-PAGE_SIZE.true in
-    (sym e, into-left a.d.words a.page.now a.nodes-1.now 2 e)
+    let e = into-page a.d.words a.page.now a.nodes.now c.if-page-ne-PAGE_SIZE.true in
+    (sym e, into-left a.d.words a.page.now a.nodes.now 2 e)
 
 is-reserved-requires : tie.Need-is_reserved-requires
 is-reserved-requires c κs = search rules
@@ -50,17 +50,17 @@ is-reserved-requires c κs = search rules
 returns-2 : tie.Need-returns-then-is_reserved
 returns-2 c =
     let a = c.before.before.before.before.before.args in
-    let e = into-marks a.d.words a.page.now a.nodes-1.now c.before.before.if-page-ne-PAGE_SIZE.false (sym c.before.is_reserved.ensures ∙ c.if-is_reserved.true) in
-    (sym e, into-left a.d.words a.page.now a.nodes-1.now 4 e)
+    let e = into-marks a.d.words a.page.now a.nodes.now c.before.before.if-page-ne-PAGE_SIZE.false (sym c.before.is_reserved.ensures ∙ c.if-is_reserved.true) in
+    (sym e, into-left a.d.words a.page.now a.nodes.now 4 e)
 
 returns-3 : tie.Need-returns-then-nodes-ne-NODES_SIZE
 returns-3 c =
     let tests = c.before.before in
     let a = tests.before.before.before.before.args in
     let e =
-    into_memory a.d.words a.page.now a.nodes-1.now tests.before.if-page-ne-PAGE_SIZE.false (sym tests.is_reserved.ensures ∙ c.before.if-is_reserved.false) c.if-nodes-ne-NODES_SIZE.true
+    into_memory a.d.words a.page.now a.nodes.now tests.before.if-page-ne-PAGE_SIZE.false (sym tests.is_reserved.ensures ∙ c.before.if-is_reserved.false) c.if-nodes-ne-NODES_SIZE.true
     in
-    (sym e, into-left a.d.words a.page.now a.nodes-1.now 2 e)
+    (sym e, into-left a.d.words a.page.now a.nodes.now 2 e)
 
 count-requires : tie.Need-count-count-requires
 count-requires c κs = search rules

@@ -21,7 +21,7 @@ decreases-loop page nodes₀ c₀ left₀ nodes c left = count_of left₀.words 
 on : (c : tie.Else-s-ge-NODES_PER_PAGE invariant-loop decreases-loop) → c.before.before.loop-next.c < count_of c.before.before.before.before.args.d.words
 on c =
     let at-loop = c.before.before in
-    walk-on at-loop.before.before.args.d.words at-loop.loop-next.left-1.words at-loop.loop-next.c c.before.next_slot-next.result.slot at-loop.loop-next.invariant.0 c.before.next_slot-next.ensures.0 (omega arith)
+    walk-on at-loop.before.before.args.d.words at-loop.loop-next.left.words at-loop.loop-next.c c.before.next_slot-next.result.slot at-loop.loop-next.invariant.0 c.before.next_slot-next.ensures.0 (omega arith)
 
 few : (c : tie.Else-s-ge-NODES_PER_PAGE invariant-loop decreases-loop) → c.before.before.loop-next.c < 126
 few c = omega (arith, on c, plain_count c.before.before.before.before.args.d.words c.before.before.before.before.requires)
@@ -33,7 +33,7 @@ next-slot-requires : tie.Need-next_slot-next-requires invariant-loop decreases-l
 next-slot-requires c κs = tt
 
 returns : tie.Need-returns-then-s-ge-NODES_PER_PAGE invariant-loop decreases-loop
-returns c = let at-loop = c.before.before in let args = at-loop.before.before.args in table_end args.page.now (slots args.d.words) at-loop.loop-next.nodes at-loop.loop-next.c at-loop.loop-next.invariant.1 (walk_end args.d.words at-loop.loop-next.left-1.words at-loop.loop-next.c c.before.next_slot-next.result.slot at-loop.loop-next.invariant.0 c.before.next_slot-next.ensures.0 at-loop.before.before.requires c.if-s-ge-NODES_PER_PAGE.true)
+returns c = let at-loop = c.before.before in let args = at-loop.before.before.args in table_end args.page.now (slots args.d.words) at-loop.loop-next.nodes at-loop.loop-next.c at-loop.loop-next.invariant.1 (walk_end args.d.words at-loop.loop-next.left.words at-loop.loop-next.c c.before.next_slot-next.result.slot at-loop.loop-next.invariant.0 c.before.next_slot-next.ensures.0 at-loop.before.before.requires c.if-s-ge-NODES_PER_PAGE.true)
 
 mul-block-32 : tie.Need-overflow_mul-s invariant-loop decreases-loop
 mul-block-32 c = omega arith
@@ -54,7 +54,7 @@ loop-less : tie.Need-loop-next-smaller invariant-loop decreases-loop
 loop-less c = omega (arith, on c.before.before)
 
 loop-again : tie.Need-loop-next-preserved invariant-loop decreases-loop
-loop-again c = let turn = c.before.before in let at-loop = turn.before.before in let args = at-loop.before.before.args in let ws = args.d.words in (walk_step ws at-loop.loop-next.left-1.words at-loop.loop-next.c turn.before.next_slot-next.result.slot at-loop.loop-next.invariant.0 turn.before.next_slot-next.ensures.0 turn.before.next_slot-next.result.rest.words (omega arith) turn.before.next_slot-next.ensures.1, ap (λ (n : List ℕ). set at-loop.loop-next.nodes at-loop.loop-next.c n) c.before.block_32.ensures ∙ table_turn args.page.now (slots ws) at-loop.loop-next.nodes at-loop.loop-next.c turn.before.next_slot-next.result.slot at-loop.loop-next.invariant.1 (walk_at ws at-loop.loop-next.left-1.words at-loop.loop-next.c turn.before.next_slot-next.result.slot at-loop.loop-next.invariant.0 turn.before.next_slot-next.ensures.0) (on turn) (few turn))
+loop-again c = let turn = c.before.before in let at-loop = turn.before.before in let args = at-loop.before.before.args in let ws = args.d.words in (walk_step ws at-loop.loop-next.left.words at-loop.loop-next.c turn.before.next_slot-next.result.slot at-loop.loop-next.invariant.0 turn.before.next_slot-next.ensures.0 turn.before.next_slot-next.result.rest.words (omega arith) turn.before.next_slot-next.ensures.1, ap (λ (n : List ℕ). set at-loop.loop-next.nodes at-loop.loop-next.c n) c.before.block_32.ensures ∙ table_turn args.page.now (slots ws) at-loop.loop-next.nodes at-loop.loop-next.c turn.before.next_slot-next.result.slot at-loop.loop-next.invariant.1 (walk_at ws at-loop.loop-next.left.words at-loop.loop-next.c turn.before.next_slot-next.result.slot at-loop.loop-next.invariant.0 turn.before.next_slot-next.ensures.0) (on turn) (few turn))
 
 pub pack_nodes_spec : {M : Type 1} → statement M
 pack_nodes_spec =

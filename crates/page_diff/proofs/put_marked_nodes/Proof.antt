@@ -24,16 +24,16 @@ module _ (c : tie.Else-slot-ge-NODES_PER_PAGE invariant-loop decreases-loop) whe
   at-loop = c.before.before
 
   on : at-loop.loop-next.c < count_of at-loop.before.before.before.args.d.words
-  on = walk-on at-loop.before.before.before.args.d.words at-loop.loop-next.left-1.words at-loop.loop-next.c c.before.next_slot-next.result.slot at-loop.loop-next.inv.0 c.before.next_slot-next.ensures.0 (omega arith)
+  on = walk-on at-loop.before.before.before.args.d.words at-loop.loop-next.left.words at-loop.loop-next.c c.before.next_slot-next.result.slot at-loop.loop-next.invariant.0 c.before.next_slot-next.ensures.0 (omega arith)
 
   few : at-loop.loop-next.c < 126
-  few = omega (arith, on, plain_count at-loop.before.before.before.args.d.words at-loop.before.before.before.pre.0)
+  few = omega (arith, on, plain_count at-loop.before.before.before.args.d.words at-loop.before.before.before.requires.0)
 
 loop-holds : tie.Need-loop-next-init invariant-loop decreases-loop
 loop-holds c =
     let start = c.before.before in
     let args = start.args in
-    (walk_start args.d.words, nodes_start args.s-1.now args.at (map (node_at args.page.now) (slots args.d.words)) (omega (arith, start.requires.1)))
+    (walk_start args.d.words, nodes_start args.s.now args.at (map (node_at args.page.now) (slots args.d.words)) (omega (arith, start.requires.1)))
 
 next-slot-requires : tie.Need-next_slot-next-requires invariant-loop decreases-loop
 next-slot-requires c κs = tt
@@ -42,7 +42,7 @@ same_length : tie.Need-shape_of-s-then-slot-ge-NODES_PER_PAGE invariant-loop dec
 same_length c =
     let at-loop = c.before.before in
     let args = at-loop.before.before.before.args in
-    nodes-length args.s-1.now args.at (map (node_at args.page.now) (slots args.d.words)) at-loop.loop-next.s-1 at-loop.loop-next.c at-loop.loop-next.invariant.1
+    nodes-length args.s.now args.at (map (node_at args.page.now) (slots args.d.words)) at-loop.loop-next.s at-loop.loop-next.c at-loop.loop-next.invariant.1
 
 returns : tie.Need-returns-then-slot-ge-NODES_PER_PAGE invariant-loop decreases-loop
 returns c =
@@ -50,8 +50,8 @@ returns c =
     let start = at-loop.before.before.before in
     let args = start.args in
     let ws = args.d.words in
-    nodes_end args.s-1.now args.at (map (node_at args.page.now) (slots ws)) at-loop.loop-next.s-1 at-loop.loop-next.c at-loop.loop-next.invariant.1
-    (walk_end ws at-loop.loop-next.left-1.words at-loop.loop-next.c c.before.next_slot-next.result.slot at-loop.loop-next.invariant.0 c.before.next_slot-next.ensures.0 start.requires.0 c.if-slot-ge-NODES_PER_PAGE.true ∙ sym (length-map (slots ws) (node_at args.page.now)))
+    nodes_end args.s.now args.at (map (node_at args.page.now) (slots ws)) at-loop.loop-next.s at-loop.loop-next.c at-loop.loop-next.invariant.1
+    (walk_end ws at-loop.loop-next.left.words at-loop.loop-next.c c.before.next_slot-next.result.slot at-loop.loop-next.invariant.0 c.before.next_slot-next.ensures.0 start.requires.0 c.if-slot-ge-NODES_PER_PAGE.true ∙ sym (length-map (slots ws) (node_at args.page.now)))
 
 mul-put-32 : tie.Need-overflow_mul-c invariant-loop decreases-loop
 mul-put-32 c = omega (arith, few c.before)
@@ -85,9 +85,9 @@ loop-again c =
     let ws = args.d.words in
     let s = turn.before.next_slot-next.result.slot in
     let k = at-loop.loop-next.c in (
-      walk_step ws at-loop.loop-next.left-1.words k s at-loop.loop-next.invariant.0 turn.before.next_slot-next.ensures.0 turn.before.next_slot-next.result.rest.words (omega arith) turn.before.next_slot-next.ensures.1,
-      page_turn args.s-1.now args.at args.page.now (slots ws) at-loop.loop-next.s-1 k s at-loop.loop-next.invariant.1 (walk_at ws at-loop.loop-next.left-1.words k s at-loop.loop-next.invariant.0 turn.before.next_slot-next.ensures.0) (on turn) (omega (arith, on turn, start.requires.1))
-          called.put_32.new.0 (called.put_32.ensures.0 ∙ ap (λ (n : List ℕ). put at-loop.loop-next.s-1 (args.at + 32 * k) n) node.block_32.ensures),
+      walk_step ws at-loop.loop-next.left.words k s at-loop.loop-next.invariant.0 turn.before.next_slot-next.ensures.0 turn.before.next_slot-next.result.rest.words (omega arith) turn.before.next_slot-next.ensures.1,
+      page_turn args.s.now args.at args.page.now (slots ws) at-loop.loop-next.s k s at-loop.loop-next.invariant.1 (walk_at ws at-loop.loop-next.left.words k s at-loop.loop-next.invariant.0 turn.before.next_slot-next.ensures.0) (on turn) (omega (arith, on turn, start.requires.1))
+          called.put_32.new.s (called.put_32.ensures.0 ∙ ap (λ (n : List ℕ). put at-loop.loop-next.s (args.at + 32 * k) n) node.block_32.ensures),
     )
 
 pub put_marked_nodes_spec : {M : Type 1} → statement M

@@ -23,7 +23,7 @@ module _ (c : tie.After-count-size) where
   page = start.args.page.now
 
   abbrev s : List ℕ
-  s = start.args.s-1.now
+  s = start.args.s.now
 
   plain : reserved ws ≡ false
   plain = sym c.before.before.is_reserved.ensures ∙ c.before.if-is_reserved.false
@@ -38,7 +38,7 @@ is-reserved-requires : tie.Need-is_reserved-requires
 is-reserved-requires c κs = search rules
 
 returns : tie.Need-returns-then-is_reserved
-returns c = let a = c.before.before.before.before.args in sym (nodes_none a.s-1.now a.at a.d.words a.page.now (sym c.before.is_reserved.ensures ∙ c.if-is_reserved.true))
+returns c = let a = c.before.before.before.before.args in sym (nodes_none a.s.now a.at a.d.words a.page.now (sym c.before.is_reserved.ensures ∙ c.if-is_reserved.true))
 
 count-requires : tie.Need-count-size-requires
 count-requires c κs = search rules

@@ -21,13 +21,13 @@ decreases-loop nodes page₀ c₀ left₀ page c left = count_of left₀.words -
 on : (c : tie.Else-s-ge-NODES_PER_PAGE invariant-loop decreases-loop) → c.before.before.loop-next.c < count_of c.before.before.before.before.args.d.words
 on c =
     let at-loop = c.before.before in
-    walk-on at-loop.before.before.args.d.words at-loop.loop-next.left-1.words at-loop.loop-next.c c.before.next_slot-next.result.slot at-loop.loop-next.invariant.0 c.before.next_slot-next.ensures.0 (omega arith)
+    walk-on at-loop.before.before.args.d.words at-loop.loop-next.left.words at-loop.loop-next.c c.before.next_slot-next.result.slot at-loop.loop-next.invariant.0 c.before.next_slot-next.ensures.0 (omega arith)
 
 few : (c : tie.Else-s-ge-NODES_PER_PAGE invariant-loop decreases-loop) → c.before.before.loop-next.c < 126
 few c = omega (arith, on c, plain_count c.before.before.before.before.args.d.words c.before.before.before.before.requires.0)
 
 loop-holds : tie.Need-loop-next-init invariant-loop decreases-loop
-loop-holds c = let args = c.before.args in (walk_start args.d.words, (c.before.requires.1, (λ j h. put_none args.d.words args.nodes.now args.page-1.now j)))
+loop-holds c = let args = c.before.args in (walk_start args.d.words, (c.before.requires.1, (λ j h. put_none args.d.words args.nodes.now args.page.now j)))
 
 next-slot-requires : tie.Need-next_slot-next-requires invariant-loop decreases-loop
 next-slot-requires c κs = tt
@@ -36,7 +36,7 @@ same_length : tie.Need-shape_of-page-then-s-ge-NODES_PER_PAGE invariant-loop dec
 same_length c = c.before.before.loop-next.invariant.1.0 ∙ sym c.before.before.before.before.requires.1
 
 returns : tie.Need-returns-then-s-ge-NODES_PER_PAGE invariant-loop decreases-loop
-returns c = let at-loop = c.before.before in let args = at-loop.before.before.args in put_all args.d.words args.nodes.now args.page-1.now at-loop.loop-next.page-1 at-loop.loop-next.c (walk_end args.d.words at-loop.loop-next.left-1.words at-loop.loop-next.c c.before.next_slot-next.result.slot at-loop.loop-next.invariant.0 c.before.next_slot-next.ensures.0 at-loop.before.before.requires.0 c.if-s-ge-NODES_PER_PAGE.true) at-loop.loop-next.invariant.1.0 at-loop.loop-next.invariant.1.1
+returns c = let at-loop = c.before.before in let args = at-loop.before.before.args in put_all args.d.words args.nodes.now args.page.now at-loop.loop-next.page at-loop.loop-next.c (walk_end args.d.words at-loop.loop-next.left.words at-loop.loop-next.c c.before.next_slot-next.result.slot at-loop.loop-next.invariant.0 c.before.next_slot-next.ensures.0 at-loop.before.before.requires.0 c.if-s-ge-NODES_PER_PAGE.true) at-loop.loop-next.invariant.1.0 at-loop.loop-next.invariant.1.1
 
 mul-n : tie.Need-offset_bounds-nodes-c invariant-loop decreases-loop
 mul-n c = omega (arith, few c)
@@ -57,7 +57,7 @@ loop-less : tie.Need-loop-next-smaller invariant-loop decreases-loop
 loop-less c = omega (arith, on c.before.before.before.before.before.before)
 
 loop-again : tie.Need-loop-next-preserved invariant-loop decreases-loop
-loop-again c = let put-called = c.before.before.before in let turn = put-called.before.before.before in let at-loop = turn.before.before in let args = at-loop.before.before.args in let ws = args.d.words in let ns = args.nodes.now in let s = turn.before.next_slot-next.result.slot in let k = at-loop.loop-next.c in (walk_step ws at-loop.loop-next.left-1.words k s at-loop.loop-next.invariant.0 turn.before.next_slot-next.ensures.0 turn.before.next_slot-next.result.rest.words (omega arith) turn.before.next_slot-next.ensures.1, (put-called.put_32.auto.0 ∙ at-loop.loop-next.invariant.1.0, λ j h. ap (λ (l : List ℕ). get_or l j 0) put-called.put_32.ensures.0 ∙ put_turn ws ns args.page-1.now at-loop.loop-next.page-1 k s (walk-slot ws at-loop.loop-next.left-1.words k s at-loop.loop-next.invariant.0 turn.before.next_slot-next.ensures.0 (omega arith)) (get_or ns k []) refl put-called.put_32.ensures.1 at-loop.loop-next.invariant.1.0 (omega arith) at-loop.loop-next.invariant.1.1 j h))
+loop-again c = let put-called = c.before.before.before in let turn = put-called.before.before.before in let at-loop = turn.before.before in let args = at-loop.before.before.args in let ws = args.d.words in let ns = args.nodes.now in let s = turn.before.next_slot-next.result.slot in let k = at-loop.loop-next.c in (walk_step ws at-loop.loop-next.left.words k s at-loop.loop-next.invariant.0 turn.before.next_slot-next.ensures.0 turn.before.next_slot-next.result.rest.words (omega arith) turn.before.next_slot-next.ensures.1, (put-called.put_32.auto.s ∙ at-loop.loop-next.invariant.1.0, λ j h. ap (λ (l : List ℕ). get_or l j 0) put-called.put_32.ensures.0 ∙ put_turn ws ns args.page.now at-loop.loop-next.page k s (walk-slot ws at-loop.loop-next.left.words k s at-loop.loop-next.invariant.0 turn.before.next_slot-next.ensures.0 (omega arith)) (get_or ns k []) refl put-called.put_32.ensures.1 at-loop.loop-next.invariant.1.0 (omega arith) at-loop.loop-next.invariant.1.1 j h))
 
 pub unpack_nodes_spec : {M : Type 1} → statement M
 unpack_nodes_spec =

@@ -10,34 +10,34 @@ use borrow.Author.Rules.{rules}
 use Rattle.recover.proofs.apply_by.Statement.{statement}
 use Rattle.recover.proofs.apply_by.Tie as tie
 
-check-image-requires : tie.Need-check-image-requires
+check-image-requires : tie.Need-check_image-fit-requires
 check-image-requires c κs = search rules
 
-enum-known-fit : tie.Need-enum-known-fit
+enum-known-fit : tie.Need-enum_known-fit
 enum-known-fit c = search rules
 
-returns : tie.Need-returns
+returns : tie.Need-returns-in-Refused
 returns c =
-    let args = c.before.before.before.before.before.before.args in
-    step-unfit args.rule args.n args.image.now args.edition args.log.now args.at args.hash (number_of c.before.fit.given.0.0) (sym c.before.before.before.check-image.ensures ∙ ap outcome_said c.before.fit.given.1)
+    let args = c.args in
+    step-unfit args.rule args.n args.image.now args.edition args.log.now args.at args.hash (number_of c.in-Refused.why) (sym c.check_image-fit.ensures ∙ ap outcome_said c.in-Refused.is)
 
-enum_told : tie.Need-enum-told
+enum_told : tie.Need-enum_told-1
 enum_told c = search rules
 
-apply-at-requires : tie.Need-apply-at-requires
+apply-at-requires : tie.Need-apply_at-requires
 apply-at-requires c κs =
     let told = c.before in
-    let args = told.before.before.before.before.before.args in
-    table_fits (image_fits args.n (length args.image.now)) (sym told.before.before.check-image.ensures ∙ ap outcome_said told.enum_told.given.1)
+    let args = told.args in
+    table_fits (image_fits args.n (length args.image.now)) (sym told.check_image-fit.ensures ∙ ap outcome_said told.in_default.is)
 
-same_length : tie.Need-same-length
+same_length : tie.Need-shape_of-image
 same_length c = search rules
 
-returns-2 : tie.Need-returns-2
+returns-2 : tie.Need-returns
 returns-2 c = search rules
 
-pub apply-by-spec : {M : Type 1} → statement M
-apply-by-spec =
+pub apply_by_spec : {M : Type 1} → statement M
+apply_by_spec =
     tie.close
     (tie.spec
     check-image-requires

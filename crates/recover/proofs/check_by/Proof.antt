@@ -11,58 +11,58 @@ use Rattle.recover.proofs.check_by.Statement.{statement}
 use Rattle.recover.proofs.check_by.Tie as tie
 
 -- the image is the table's
-fits : (c : tie.After-enum-told) → image_fits c.before.before.before.before.args.n c.before.before.before.before.args.image-len ≡ true
-fits c = let args = c.before.before.before.before.args in table_fits (image_fits args.n args.image-len) (sym c.before.before.check-image.ensures ∙ ap outcome_said c.enum_told.given.1)
+fits : (c : tie.In_default) → image_fits c.args.n c.args.image_len ≡ true
+fits c = let args = c.args in table_fits (image_fits args.n args.image_len) (sym c.check_image-fit.ensures ∙ ap outcome_said c.in_default.is)
 
-check-image-requires : tie.Need-check-image-requires
+check-image-requires : tie.Need-check_image-fit-requires
 check-image-requires c κs = search rules
 
-enum-known-fit : tie.Need-enum-known-fit
+enum-known-fit : tie.Need-enum_known-fit
 enum-known-fit c = search rules
 
-returns : tie.Need-returns
+returns : tie.Need-returns-in-Refused
 returns c =
-    let args = c.before.before.before.before.before.args in
-    replay-unfit args.rule args.n args.image-len args.log.now args.want args.hashes (number_of c.before.fit.given.0.0) (sym c.before.before.before.check-image.ensures ∙ ap outcome_said c.before.fit.given.1)
+    let args = c.args in
+    replay-unfit args.rule args.n args.image_len args.log.now args.want args.hashes (number_of c.in-Refused.why) (sym c.check_image-fit.ensures ∙ ap outcome_said c.in-Refused.is)
 
-enum_told : tie.Need-enum-told
+enum_told : tie.Need-enum_told-1
 enum_told c = search rules
 
-returns-2 : tie.Need-returns-2
+returns-2 : tie.Need-returns-then-log-eq0
 returns-2 c =
     let told = c.before in
-    let args = told.before.before.before.before.args in
-    replay-empty args.rule args.n args.image-len args.log.now args.want args.hashes (fits told) c.if1.true
+    let args = told.args in
+    replay-empty args.rule args.n args.image_len args.log.now args.want args.hashes (fits told) c.if-log-eq0.true
 
-set-requires : tie.Need-set-requires
+set-requires : tie.Need-set-start-requires
 set-requires c κs = search rules
 
-enum-known-start : tie.Need-enum-known-start
+enum-known-start : tie.Need-enum_known-start
 enum-known-start c = search rules
 
-check-started-requires : tie.Need-check-started-requires
+check-started-requires : tie.Need-check_started-requires
 check-started-requires c κs = search rules
 
-enum-known-start-2 : tie.Need-enum-known-start-2
+enum-known-start-2 : tie.Need-enum_known-start-in-Refused-start
 enum-known-start-2 c = search rules
 
-returns-3 : tie.Need-returns-3
+returns-3 : tie.Need-returns-in-Is
 returns-3 c =
-    let read = c.before.before.before.before in
+    let read = c.before.before in
     let some = read.before in
-    let args = some.before.before.before.before.before.args in
-    c.check-started.ensures
-    ∙ replay-started args.rule args.n args.image-len args.log.now args.want args.hashes (fits some.before) some.if1.false (given c.before.before.start.given.0.0) (sym read.set.ensures ∙ ap number_said c.before.before.start.given.1)
+    let args = some.args in
+    c.check_started.ensures
+    ∙ replay-started args.rule args.n args.image_len args.log.now args.want args.hashes (fits some.before) some.if-log-eq0.false (given c.in-Is.found) (sym read.set-start.ensures ∙ ap number_said c.in-Is.is)
 
-returns-4 : tie.Need-returns-4
+returns-4 : tie.Need-returns-in-Refused-start
 returns-4 c =
-    let read = c.before.before.before in
+    let read = c.before in
     let some = read.before in
-    let args = some.before.before.before.before.before.args in
-    replay-started args.rule args.n args.image-len args.log.now args.want args.hashes (fits some.before) some.if1.false (refused (number_of c.before.start2.given.0.0)) (sym read.set.ensures ∙ ap number_said c.before.start2.given.1)
+    let args = some.args in
+    replay-started args.rule args.n args.image_len args.log.now args.want args.hashes (fits some.before) some.if-log-eq0.false (refused (number_of c.in-Refused-start.why)) (sym read.set-start.ensures ∙ ap number_said c.in-Refused-start.is)
 
-pub check-by-spec : {M : Type 1} → statement M
-check-by-spec =
+pub check_by_spec : {M : Type 1} → statement M
+check_by_spec =
     tie.close
     (tie.spec
     check-image-requires

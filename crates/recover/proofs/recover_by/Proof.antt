@@ -13,7 +13,7 @@ use Rattle.recover.proofs.recover_by.Statement.{statement}
 use Rattle.recover.proofs.recover_by.Tie as tie
 
 -- after the tests
-module _ (c : tie.After-check-by) where
+module _ (c : tie.After-check_by-answer) where
   abbrev start : tie.Start
   start = c.before.before.before.before
 
@@ -26,40 +26,40 @@ module _ (c : tie.After-check-by) where
   abbrev hashes : List ℕ
   hashes = start.args.hashes.now
 
-  said : recovered_said c.check-by.result ≡ replay_answer start.args.rule start.args.n image log start.args.want hashes
-  said = c.check-by.ensures
+  said : recovered_said c.check_by-answer.result ≡ replay_answer start.args.rule start.args.n image log start.args.want hashes
+  said = c.check_by-answer.ensures
 
   abbrev after : List ℕ
   after = replayed start.args.n (steps_of log hashes) image
 
-check-by-requires : tie.Need-check-by-requires
+check-by-requires : tie.Need-check_by-answer-requires
 check-by-requires c κs = search rules
 
-enum_told : tie.Need-enum-told
+enum_told : tie.Need-enum_told-1
 enum_told c = search rules
 
-returns : tie.Need-returns
+returns : tie.Need-returns-in_default
 returns c =
     let t = c.before in
-    (said t, others_leave t.check-by.result (image t) (after t) c.match.keys2 ∙ ap (λ (a : Answer Did). image_by a (image t) (after t)) (said t))
+    (said t, others_leave t.check_by-answer.result (image t) (after t) c.in_default.in_default-own.keys2 ∙ ap (λ (a : Answer Did). image_by a (image t) (after t)) (said t))
 
 run-requires : tie.Need-run-requires
 run-requires c κs =
-    let t = c.before.before.before in
+    let t = c.before.before in
     let rule = (start t).args.rule in
-    let told = applied_told rule (start t).args.n (length (image t)) (log t) (start t).args.want (length (hashes t)) (sym (said t) ∙ ap recovered_said c.before.enum_told.given.1) in
+    let told = applied_told rule (start t).args.n (length (image t)) (log t) (start t).args.want (length (hashes t)) (sym (said t) ∙ ap recovered_said c.in-Applied.is) in
     (told.0, check-tolerant rule (start t).args.n (log t) (length (hashes t)) told.1)
 
-same_length : tie.Need-same-length
+same_length : tie.Need-shape_of-image
 same_length c = search rules
 
-returns-2 : tie.Need-returns-2
+returns-2 : tie.Need-returns
 returns-2 c =
     let ran = c.before.before in
     let told = ran.before.before in
-    let t = told.before.before in
-    (said t, ran.run.ensures ∙ sym (ap (λ (a : Answer Did). image_by a (image t) (after t)) (sym (said t) ∙ ap recovered_said told.enum_told.given.1)))
+    let t = told.before in
+    (said t, ran.run.ensures ∙ sym (ap (λ (a : Answer Did). image_by a (image t) (after t)) (sym (said t) ∙ ap recovered_said told.in-Applied.is)))
 
-pub recover-by-spec : {M : Type 1} → statement M
-recover-by-spec =
+pub recover_by_spec : {M : Type 1} → statement M
+recover_by_spec =
     tie.close (tie.spec check-by-requires enum_told returns run-requires same_length returns-2)

@@ -8,14 +8,14 @@ use borrow.Author.Rules.{rules}
 use Rattle.recover.proofs.stopped_step.Statement.{statement}
 use Rattle.recover.proofs.stopped_step.Tie as tie
 
-enum-known-head : tie.Need-enum-known-head
+enum-known-head : tie.Need-enum_known-head
 enum-known-head c = search rules
 
-returns : tie.Need-returns
-returns c = sym (ap (λ (h : Head). step_stop (head_said h)) c.before.head.given.1)
+returns : tie.Need-returns-in-Refused
+returns c = sym (ap (λ (h : Head). step_stop (head_said h)) c.in-Refused.is)
 
-returns-2 : tie.Need-returns-2
-returns-2 c = sym (step_ended c.before.args.head c.match.keys2)
+returns-2 : tie.Need-returns
+returns-2 c = sym (step_ended c.args.head c.in_default.in_default-own.keys2)
 
-pub stopped-step-spec : {M : Type 1} → statement M
-stopped-step-spec = tie.close (tie.spec enum-known-head returns returns-2)
+pub stopped_step_spec : {M : Type 1} → statement M
+stopped_step_spec = tie.close (tie.spec enum-known-head returns returns-2)

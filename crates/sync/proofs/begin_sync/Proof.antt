@@ -42,7 +42,7 @@ module _ (c : tie.Start) where
   count = c.args.count
 
   wide : WideStart s.log_start
-  wide = typed_start s _ c.well-formed.1.1.1.1.1.0
+  wide = typed_start s _ c.well_formed.1.1.1.1.1.0
 
 -- the tags fit
 module _ (c : tie.After-enum-told) where

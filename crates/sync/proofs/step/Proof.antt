@@ -47,7 +47,7 @@ module _ (c : tie.Start) where
   page = c.args.page.now
 
   wide : Wide ch
-  wide = typed_wide ch _ c.well-formed.1.1.1.1.1.0
+  wide = typed_wide ch _ c.well_formed.1.1.1.1.1.0
 
 -- the tags fit
 module _ (c : tie.After-enum-told) where

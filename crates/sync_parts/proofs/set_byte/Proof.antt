@@ -5,17 +5,17 @@ use borrow.Author.Rules.{rules}
 use Rattle.sync_parts.proofs.set_byte.Statement.{statement}
 use Rattle.sync_parts.proofs.set_byte.Tie as tie
 
-slice-write-s : tie.Need-slice-write-s
+slice-write-s : tie.Need-bounds-s-i
 slice-write-s c = search rules
 
-same_length : tie.Need-same-length
+same_length : tie.Need-shape_of-s
 same_length c = search rules
 
-returns : tie.Need-returns
+returns : tie.Need-returns-then-i-s
 returns c = search rules
 
-returns-2 : tie.Need-returns-2
-returns-2 c = let args = c.before.args in sym (set_out args.s.now args.i args.x c.if1.false)
+returns-2 : tie.Need-returns-else-i-s
+returns-2 c = let args = c.args in sym (set_out args.s.now args.i args.x c.if-i-s.false)
 
-pub set-byte-spec : {M : Type 1} → statement M
-set-byte-spec = tie.close (tie.spec slice-write-s same_length returns returns-2)
+pub set_byte_spec : {M : Type 1} → statement M
+set_byte_spec = tie.close (tie.spec slice-write-s same_length returns returns-2)

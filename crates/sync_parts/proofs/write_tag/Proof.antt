@@ -6,26 +6,26 @@ use borrow.Author.Rules.{rules}
 use Rattle.sync_parts.proofs.write_tag.Statement.{statement}
 use Rattle.sync_parts.proofs.write_tag.Tie as tie
 
-set-byte-requires : tie.Need-set-byte-requires
+set-byte-requires : tie.Need-set_byte-requires
 set-byte-requires c κs = search rules
 
-page-index-requires : tie.Need-page-index-requires
+page-index-requires : tie.Need-page_index-m-requires
 page-index-requires c κs = search rules
 
-set-byte-requires-2 : tie.Need-set-byte-requires-2
+set-byte-requires-2 : tie.Need-set_byte-requires-2
 set-byte-requires-2 c κs = search rules
 
-same_length : tie.Need-same-length
+same_length : tie.Need-shape_of-tags
 same_length c = search rules
 
-same-length-2 : tie.Need-same-length-2
+same-length-2 : tie.Need-shape_of-marks
 same-length-2 c = search rules
 
 returns : tie.Need-returns
-returns c = let index = c.before.before.before.before in let first = index.before.before.before in (first.set-byte.ensures, c.before.before.set-byte2.ensures ∙ ap (λ (k : ℕ). set first.before.before.before.before.args.marks.now k 1) index.page-index.ensures)
+returns c = let index = c.before.before.before.before in let first = index.before.before.before in (first.set_byte.ensures, c.set_byte-2.ensures ∙ ap (λ (k : ℕ). set first.args.marks.now k 1) index.page_index-m.ensures)
 
-pub write-tag-spec : {M : Type 1} → statement M
-write-tag-spec =
+pub write_tag_spec : {M : Type 1} → statement M
+write_tag_spec =
     tie.close
     (tie.spec
     set-byte-requires

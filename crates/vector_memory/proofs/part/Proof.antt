@@ -3,14 +3,14 @@ use Rattle.std.proofs.Common.{sym, arith, length-take-le, take_all, rules}
 use Rattle.vector_memory.proofs.part.Statement.{statement}
 use Rattle.vector_memory.proofs.part.Tie as tie
 
-slice-aggregate-result : tie.Need-slice-aggregate-result
+slice-aggregate-result : tie.Need-slice_bounds-result-end
 slice-aggregate-result c = sym (length-take-le _ _ (omega arith))
 
-returns : tie.Need-returns
+returns : tie.Need-returns-then-n-s
 returns c = search rules
 
-returns-2 : tie.Need-returns-2
-returns-2 c = let a = c.before.args in sym (take_all a.n a.s.now (omega (arith, c.if1.false)))
+returns-2 : tie.Need-returns
+returns-2 c = let a = c.before.args in sym (take_all a.n a.s.now (omega (arith, c.if-n-s.false)))
 
-pub part-spec : {M : Type 1} → statement M
-part-spec = tie.close (tie.spec slice-aggregate-result returns returns-2)
+pub part_spec : {M : Type 1} → statement M
+part_spec = tie.close (tie.spec slice-aggregate-result returns returns-2)

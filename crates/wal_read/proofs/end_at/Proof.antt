@@ -10,7 +10,7 @@ bare-requires : tie.Need-bare-requires
 bare-requires c κs = search rules
 
 returns : tie.Need-returns
-returns c = bare-end c.before.args.at c.bare.result ended refl c.bare.ensures
+returns c = bare-end c.args.at c.bare.result ended refl c.bare.ensures
 
-pub end-at-spec : {M : Type 1} → statement M
-end-at-spec = tie.close (tie.spec bare-requires returns)
+pub end_at_spec : {M : Type 1} → statement M
+end_at_spec = tie.close (tie.spec bare-requires returns)

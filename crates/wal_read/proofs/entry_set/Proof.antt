@@ -11,35 +11,35 @@ use borrow.Author.Rules.{rules}
 use Rattle.wal_read.proofs.entry_set.Statement.{statement}
 use Rattle.wal_read.proofs.entry_set.Tie as tie
 
-enum_told : tie.Need-enum-told
+enum_told : tie.Need-enum_told-1
 enum_told c = search rules
 
-edition-of-requires : tie.Need-edition-of-requires
+edition-of-requires : tie.Need-edition_of-requires
 edition-of-requires c κs = search rules
 
-entry-by-requires : tie.Need-entry-by-requires
+entry-by-requires : tie.Need-entry_by-requires
 entry-by-requires c κs = search rules
 
-enum-known-start : tie.Need-enum-known-start
+enum-known-start : tie.Need-enum_known-start
 enum-known-start c = search rules
 
 bare-requires : tie.Need-bare-requires
 bare-requires c κs = search rules
 
-returns : tie.Need-returns
+returns : tie.Need-returns-in-Is
 returns c =
-    let start = c.before.before.before.before.before in
-    subst (λ (n : Number). Taken (gives_at start.args.rule (number_said n) start.args.log.now start.args.at) start.args.at c.entry-by.result) (sym c.before.before.enum_told.given.1)
-    (subst (λ (ed : Edition). Taken (next_by start.args.rule ed start.args.log.now start.args.at) start.args.at c.entry-by.result) c.before.edition-of.ensures c.entry-by.ensures)
+    let start = c.before.before.before.before in
+    subst (λ (n : Number). Taken (gives_at start.args.rule (number_said n) start.args.log.now start.args.at) start.args.at c.entry_by.result) (sym c.in-Is.is)
+    (subst (λ (ed : Edition). Taken (next_by start.args.rule ed start.args.log.now start.args.at) start.args.at c.entry_by.result) c.edition_of.ensures c.entry_by.ensures)
 
-returns-2 : tie.Need-returns-2
+returns-2 : tie.Need-returns-in-Refused
 returns-2 c =
-    let found = c.before.before in
-    let start = found.before.before.before in
-    bare-stop start.args.at c.bare.result (gives_at start.args.rule (number_said start.args.start) start.args.log.now start.args.at) found.start.given.0.0
-    (ap (λ (n : Number). gives_at start.args.rule (number_said n) start.args.log.now start.args.at) found.start.given.1) c.bare.ensures
+    let found = c.before in
+    let start = found.before.before in
+    bare-stop start.args.at c.bare.result (gives_at start.args.rule (number_said start.args.start) start.args.log.now start.args.at) found.in-Refused.why
+    (ap (λ (n : Number). gives_at start.args.rule (number_said n) start.args.log.now start.args.at) found.in-Refused.is) c.bare.ensures
 
-pub entry-set-spec : {M : Type 1} → statement M
-entry-set-spec =
+pub entry_set_spec : {M : Type 1} → statement M
+entry_set_spec =
     tie.close
     (tie.spec enum_told edition-of-requires entry-by-requires enum-known-start bare-requires returns returns-2)

@@ -22,118 +22,118 @@ use Rattle.wal_read.proofs.head_after.Tie as tie
 abbrev seen : List ℕ → ℕ → ℕ → Seen
 seen log p t = head_of (by_tag t log p)
 
-sub-left : tie.Need-overflow-sub-left
+sub-left : tie.Need-overflow_sub-left
 sub-left c = search rules
 
-returns : tie.Need-returns
-returns c = let args = c.before.before.args in sym (ap (seen args.log.now args.body) c.if1.true)
+returns : tie.Need-returns-then-tag-eq-WAL_ENTRY_TAG_END
+returns c = let args = c.args in sym (ap (seen args.log.now args.body) c.if-tag-eq-WAL_ENTRY_TAG_END.true)
 
-returns-2 : tie.Need-returns-2
+returns-2 : tie.Need-returns-then-left-lt-CLEAR_BODY
 returns-2 c =
-    let args = c.before.before.before.before.args in
-    sym (ap (seen args.log.now args.body) c.before.if2.true ∙ ap head_of (by-clear-cut args.log.now args.body (omega arith)))
+    let args = c.args in
+    sym (ap (seen args.log.now args.body) c.if-tag-eq-WAL_ENTRY_TAG_CLEAR.true ∙ ap head_of (by-clear-cut args.log.now args.body (omega arith)))
 
-read-u64-requires : tie.Need-read-u64-requires
+read-u64-requires : tie.Need-read_u64-requires
 read-u64-requires c κs = search rules
 
-add-t15 : tie.Need-overflow-add-t15
+add-t15 : tie.Need-overflow_add-result
 add-t15 c = search rules
 
-returns-3 : tie.Need-returns-3
+returns-3 : tie.Need-returns-then-tag-eq-WAL_ENTRY_TAG_CLEAR
 returns-3 c =
-    let args = c.before.before.before.before.before.args in
+    let args = c.args in
     ap (λ (b : ℕ). a_clear b (args.body + 8)) c.read_u64.ensures
-    ∙ sym (ap (seen args.log.now args.body) c.before.before.if2.true ∙ ap head_of (by-clear args.log.now args.body (omega arith)))
+    ∙ sym (ap (seen args.log.now args.body) c.if-tag-eq-WAL_ENTRY_TAG_CLEAR.true ∙ ap head_of (by-clear args.log.now args.body (omega arith)))
 
-returns-4 : tie.Need-returns-4
+returns-4 : tie.Need-returns-then-tag-ne-WAL_ENTRY_TAG_UPDATE
 returns-4 c =
-    let args = c.before.before.before.before.args in
-    sym (ap head_of (by-unknown args.log.now args.body args.tag c.before.before.if1.false c.before.if2.false c.if4.true))
+    let args = c.args in
+    sym (ap head_of (by-unknown args.log.now args.body args.tag c.if-tag-eq-WAL_ENTRY_TAG_END.false c.if-tag-eq-WAL_ENTRY_TAG_CLEAR.false c.if-tag-ne-WAL_ENTRY_TAG_UPDATE.true))
 
-returns-5 : tie.Need-returns-5
+returns-5 : tie.Need-returns-then-left-lt-NODES_AT
 returns-5 c =
-    let args = c.before.before.before.before.before.args in
-    sym (ap (seen args.log.now args.body) c.before.if4.false ∙ ap head_of (by-diff-cut args.log.now args.body (omega arith)))
+    let args = c.args in
+    sym (ap (seen args.log.now args.body) c.if-tag-ne-WAL_ENTRY_TAG_UPDATE.false ∙ ap head_of (by-diff-cut args.log.now args.body (omega arith)))
 
-diff-at-requires : tie.Need-diff-at-requires
+diff-at-requires : tie.Need-diff_at-read-requires
 diff-at-requires c κs = search rules
 
-enum-known-outcome : tie.Need-enum-known-outcome
+enum-known-outcome : tie.Need-enum_known-outcome
 enum-known-outcome c = search rules
 
-returns-6 : tie.Need-returns-6
+returns-6 : tie.Need-returns-in-Refused
 returns-6 c =
-    let read = c.before.before.before in
-    let args = read.before.before.before.before.before.before.args in
-    let said = read_refused (block 16 args.log.now (args.body + 32)) (number_of c.before.outcome.given.0.0) (sym (ap outcome_said c.before.outcome.given.1) ∙ read.diff-at.ensures.0) in
-    ap a_refusal said.1 ∙ sym (ap (seen args.log.now args.body) read.before.before.if4.false ∙ ap head_of (by-reserved args.log.now args.body (omega arith) said.0))
+    let read = c.before in
+    let args = read.args in
+    let said = read_refused (block 16 args.log.now (args.body + 32)) (number_of c.in-Refused.why) (sym (ap outcome_said c.in-Refused.is) ∙ read.diff_at-read.ensures.0) in
+    ap a_refusal said.1 ∙ sym (ap (seen args.log.now args.body) read.if-tag-ne-WAL_ENTRY_TAG_UPDATE.false ∙ ap head_of (by-reserved args.log.now args.body (omega arith) said.0))
 
-enum_told : tie.Need-enum-told
+enum_told : tie.Need-enum_told-1
 enum_told c = search rules
 
-count-requires : tie.Need-count-requires
+count-requires : tie.Need-count-count-requires
 count-requires c κs = search rules
 
 -- after the count: the diff is one of nodes alone, and the count is its
-module _ (c : tie.After-count) where
+module _ (c : tie.After-count-count) where
   abbrev log : List ℕ
-  log = c.before.before.before.before.before.before.before.before.before.args.log.now
+  log = c.args.log.now
 
   abbrev body : ℕ
-  body = c.before.before.before.before.before.before.before.before.before.args.body
+  body = c.args.body
 
   abbrev tag : ℕ
-  tag = c.before.before.before.before.before.before.before.before.before.args.tag
+  tag = c.args.tag
 
   plain : reserved (diff_at log body) ≡ false
-  plain = read-given (block 16 log (body + 32)) (sym (ap outcome_said c.before.enum_told.given.1) ∙ c.before.before.before.diff-at.ensures.0)
+  plain = read-given (block 16 log (body + 32)) (sym (ap outcome_said c.in_default.is) ∙ c.diff_at-read.ensures.0)
 
-  counted : c.count.result ≡ count_of (diff_at log body)
-  counted = c.count.ensures ∙ ap count_of (c.before.before.before.diff-at.ensures.1 ∙ read-words (block 16 log (body + 32)) plain)
+  counted : c.count-count.result ≡ count_of (diff_at log body)
+  counted = c.count-count.ensures ∙ ap count_of (c.diff_at-read.ensures.1 ∙ read-words (block 16 log (body + 32)) plain)
 
   is-update : tag ≡ 4
-  is-update = c.before.before.before.before.before.if4.false
+  is-update = c.if-tag-ne-WAL_ENTRY_TAG_UPDATE.false
 
-  few : c.count.result ≤ 126
+  few : c.count-count.result ≤ 126
   few = omega (arith, counted, plain_count (diff_at log body) plain)
 
-mul-size : tie.Need-overflow-mul-size
+mul-size : tie.Need-overflow_mul-size
 mul-size c = omega (arith, few c)
 
-add-size : tie.Need-overflow-add-size
+add-size : tie.Need-overflow_add-size
 add-size c = omega (arith, few c)
 
-returns-7 : tie.Need-returns-7
+returns-7 : tie.Need-returns-then-left-size
 returns-7 c =
     let here = c.before in
     let short : length (log here) < body here + update_body (count_of (diff_at (log here) (body here))) = omega (arith, counted here) in
     sym (ap (seen (log here) (body here)) (is-update here) ∙ ap head_of (by-update-cut (log here) (body here) (omega arith) (plain here) short))
 
-sub-read-u64 : tie.Need-overflow-sub-read-u64
+sub-read-u64 : tie.Need-overflow_sub-size
 sub-read-u64 c = search rules
 
-add-read-u64 : tie.Need-overflow-add-read-u64
+add-read-u64 : tie.Need-overflow_add-body
 add-read-u64 c = search rules
 
-read-u64-requires-2 : tie.Need-read-u64-requires-2
+read-u64-requires-2 : tie.Need-read_u64-requires-2
 read-u64-requires-2 c κs = search rules
 
-add-t21 : tie.Need-overflow-add-t21
+add-t21 : tie.Need-overflow_add-result-2
 add-t21 c = search rules
 
-returns-8 : tie.Need-returns-8
+returns-8 : tie.Need-returns
 unfolding update_of
 returns-8 c =
     let here = c.before.before in
     let n : ℕ = count_of (diff_at (log here) (body here)) in
-    let same : here.count.result ≡ n = counted here in
-    let there : body here + (64 + 32 * here.count.result - 8) ≡ body here + 56 + 32 * n = omega arith in
+    let same : here.count-count.result ≡ n = counted here in
+    let there : body here + (64 + 32 * here.count-count.result - 8) ≡ body here + 56 + 32 * n = omega arith in
     let whole : body here + update_body n ≤ length (log here) = omega arith in
-    ap₂ (λ (b k : ℕ). an_update b k (body here + update_body k)) (c.read-u642.ensures ∙ ap (λ (p : ℕ). le (block 8 (log here) p)) there) same
+    ap₂ (λ (b k : ℕ). an_update b k (body here + update_body k)) (c.read_u64-2.ensures ∙ ap (λ (p : ℕ). le (block 8 (log here) p)) there) same
     ∙ sym (ap (seen (log here) (body here)) (is-update here) ∙ ap head_of (by-update (log here) (body here) (plain here) whole))
 
-pub head-after-spec : {M : Type 1} → statement M
-head-after-spec =
+pub head_after_spec : {M : Type 1} → statement M
+head_after_spec =
     tie.close
     (tie.spec
     sub-left

@@ -16,59 +16,59 @@ use Rattle.wal_read.proofs.NextLaws.{mark_within, next-unmarked, next-tagged}
 use Rattle.wal_read.proofs.head_at_tolerant.Statement.{statement}
 use Rattle.wal_read.proofs.head_at_tolerant.Tie as tie
 
-tag-at-requires : tie.Need-tag-at-requires
+tag-at-requires : tie.Need-tag_at-found-requires
 tag-at-requires c κs = search rules
 
-enum-known-found : tie.Need-enum-known-found
+enum-known-found : tie.Need-enum_known-found
 enum-known-found c = search rules
 
-mark-size-requires : tie.Need-mark-size-requires
+mark-size-requires : tie.Need-mark_size-requires
 mark-size-requires c κs = search rules
 
 -- a tag is there, and its mark is inside the log
-module _ (c : tie.After-mark-size) where
+module _ (c : tie.After-mark_size) where
   abbrev log : List ℕ
-  log = c.before.before.before.before.before.before.args.log.now
+  log = c.args.log.now
 
   abbrev at : ℕ
-  at = c.before.before.before.before.before.before.args.at
+  at = c.args.at
 
   abbrev ed : Edition
-  ed = c.before.before.before.before.before.before.args.edition
+  ed = c.args.edition
 
   abbrev tag : ℕ
-  tag = c.before.before.found.given.0.0
+  tag = c.in-Is.tag
 
   found : tag_at ed log at ≡ given tag
-  found = sym (sym (ap tag_said c.before.before.found.given.1) ∙ c.before.before.before.before.tag-at.ensures)
+  found = sym (sym (ap tag_said c.in-Is.is) ∙ c.tag_at-found.ensures)
 
-  size : c.mark-size.result ≡ mark_size ed
-  size = c.mark-size.ensures
+  size : c.mark_size.result ≡ mark_size ed
+  size = c.mark_size.ensures
 
-  inside : at + c.mark-size.result ≤ length log
+  inside : at + c.mark_size.result ≤ length log
   inside = omega (arith, size, mark_within ed log at tag found)
 
-add-head-after : tie.Need-overflow-add-head-after
+add-head-after : tie.Need-overflow_add-at
 add-head-after c = omega (arith, inside c)
 
-head-after-requires : tie.Need-head-after-requires
+head-after-requires : tie.Need-head_after-requires
 head-after-requires c κs = inside c
 
-enum-known-found-2 : tie.Need-enum-known-found-2
+enum-known-found-2 : tie.Need-enum_known-found-in-Refused-1
 enum-known-found-2 c = search rules
 
-returns : tie.Need-returns
+returns : tie.Need-returns-in-Is
 returns c =
     let k = c.before in
-    c.head-after.ensures ∙ ap (λ (m : ℕ). head_of (by_tag (tag k) (log k) (at k + m))) (size k) ∙ sym (ap head_of (next-tagged (ed k) (log k) (at k) (tag k) (found k)))
+    c.head_after.ensures ∙ ap (λ (m : ℕ). head_of (by_tag (tag k) (log k) (at k + m))) (size k) ∙ sym (ap head_of (next-tagged (ed k) (log k) (at k) (tag k) (found k)))
 
-returns-2 : tie.Need-returns-2
+returns-2 : tie.Need-returns-in-Refused
 returns-2 c =
-    let args = c.before.before.before.before.before.args in
-    sym (ap head_of (next-unmarked args.edition args.log.now args.at (number_of c.before.found2.given.0.0) (sym (sym (ap tag_said c.before.found2.given.1) ∙ c.before.before.before.tag-at.ensures))))
+    let args = c.args in
+    sym (ap head_of (next-unmarked args.edition args.log.now args.at (number_of c.in-Refused.why) (sym (sym (ap tag_said c.in-Refused.is) ∙ c.tag_at-found.ensures))))
 
-pub head-at-tolerant-spec : {M : Type 1} → statement M
-head-at-tolerant-spec =
+pub head_at_tolerant_spec : {M : Type 1} → statement M
+head_at_tolerant_spec =
     tie.close
     (tie.spec
     tag-at-requires

@@ -37,59 +37,59 @@ stays h o false (next x p) e = e
 stays h o false ended e = absurd (not_end h o e)
 stays h o false (stopped n) e = e
 
-head-at-tolerant-requires : tie.Need-head-at-tolerant-requires
+head-at-tolerant-requires : tie.Need-head_at_tolerant-head-requires
 head-at-tolerant-requires c κs = search rules
 
-enum_told : tie.Need-enum-told
+enum_told : tie.Need-enum_told-1
 enum_told c = search rules
 
-returns : tie.Need-returns
+returns : tie.Need-returns-in_default
 returns c =
     let call = c.before in
-    let args = call.before.before.args in
-    stays call.head-at-tolerant.result c.match.keys2 (wanted args.rule args.log.now (args.at + mark_size args.edition)) (next_at args.edition args.log.now args.at) call.head-at-tolerant.ensures
+    let args = call.args in
+    stays call.head_at_tolerant-head.result c.in_default.in_default-own.keys2 (wanted args.rule args.log.now (args.at + mark_size args.edition)) (next_at args.edition args.log.now args.at) call.head_at_tolerant-head.ensures
 
-mark-size-requires : tie.Need-mark-size-requires
+mark-size-requires : tie.Need-mark_size-requires
 mark-size-requires c κs = search rules
 
 -- the end stands there, its mark inside the log
-module _ (c : tie.After-mark-size) where
+module _ (c : tie.After-mark_size) where
   abbrev log : List ℕ
-  log = c.before.before.before.before.before.args.log.now
+  log = c.args.log.now
 
   abbrev at : ℕ
-  at = c.before.before.before.before.before.args.at
+  at = c.args.at
 
   abbrev ed : Edition
-  ed = c.before.before.before.before.before.args.edition
+  ed = c.args.edition
 
   abbrev rule : AfterEnd
-  rule = c.before.before.before.before.before.args.rule
+  rule = c.args.rule
 
   at-end : next_at ed log at ≡ ended
-  at-end = head_end (next_at ed log at) (sym (ap head_said c.before.enum_told.given.1) ∙ c.before.before.before.head-at-tolerant.ensures)
+  at-end = head_end (next_at ed log at) (sym (ap head_said c.in-End.is) ∙ c.head_at_tolerant-head.ensures)
 
-  size : c.mark-size.result ≡ mark_size ed
-  size = c.mark-size.ensures
+  size : c.mark_size.result ≡ mark_size ed
+  size = c.mark_size.ensures
 
   -- by whether what follows is wanted
-  by_end : (t : Bool) → wanted rule log (at + c.mark-size.result) ≡ t → head_of (on_end t ended) ≡ head_of (on_end (wanted rule log (at + mark_size ed)) (next_at ed log at))
+  by_end : (t : Bool) → wanted rule log (at + c.mark_size.result) ≡ t → head_of (on_end t ended) ≡ head_of (on_end (wanted rule log (at + mark_size ed)) (next_at ed log at))
   by_end t e = ap₂ (λ (b : Bool) (x : Next). head_of (on_end b x)) (sym e ∙ ap (λ (m : ℕ). wanted rule log (at + m)) size) (sym at-end)
 
-add-wanted : tie.Need-overflow-add-wanted
+add-wanted : tie.Need-overflow_add-at
 add-wanted c = omega (arith, size c, end_within (ed c) (log c) (at c) (at-end c))
 
 wanted-requires : tie.Need-wanted-requires
 wanted-requires c κs = search rules
 
-returns-2 : tie.Need-returns-2
-returns-2 c = by_end c.before.before true (sym c.before.wanted.ensures ∙ c.if1.true)
+returns-2 : tie.Need-returns-then-wanted
+returns-2 c = by_end c.before.before true (sym c.wanted.ensures ∙ c.if-wanted.true)
 
-returns-3 : tie.Need-returns-3
-returns-3 c = by_end c.before.before false (sym c.before.wanted.ensures ∙ c.if1.false)
+returns-3 : tie.Need-returns
+returns-3 c = by_end c.before.before false (sym c.wanted.ensures ∙ c.if-wanted.false)
 
-pub head-by-spec : {M : Type 1} → statement M
-head-by-spec =
+pub head_by_spec : {M : Type 1} → statement M
+head_by_spec =
     tie.close
     (tie.spec
     head-at-tolerant-requires

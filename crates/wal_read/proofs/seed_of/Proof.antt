@@ -4,12 +4,12 @@ use Rattle.wal.specs.Reader.{seed_of}
 use Rattle.wal_read.proofs.seed_of.Statement.{statement}
 use Rattle.wal_read.proofs.seed_of.Tie as tie
 
-block-16-requires : tie.Need-block-16-requires
+block-16-requires : tie.Need-block_16-requires
 block-16-requires c κs = search rules
 
 returns : tie.Need-returns
 unfolding seed_of
-returns c = c.block-16.ensures
+returns c = c.block_16.ensures
 
-pub seed-of-spec : {M : Type 1} → statement M
-seed-of-spec = tie.close (tie.spec block-16-requires returns)
+pub seed_of_spec : {M : Type 1} → statement M
+seed_of_spec = tie.close (tie.spec block-16-requires returns)

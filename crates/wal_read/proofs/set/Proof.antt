@@ -14,56 +14,56 @@ use Rattle.wal_read.proofs.NextLaws.{start-pages, start-empty, start-missing, st
 use Rattle.wal_read.proofs.set.Statement.{statement}
 use Rattle.wal_read.proofs.set.Tie as tie
 
-returns : tie.Need-returns
-returns c = sym (start-pages c.before.before.args.log.now c.if1.true)
+returns : tie.Need-returns-then-log-ne0
+returns c = sym (start-pages c.args.log.now c.if-log-ne0.true)
 
-returns-2 : tie.Need-returns-2
-returns-2 c = sym (start-empty c.before.before.before.args.log.now c.before.if1.false c.if2.true)
+returns-2 : tie.Need-returns-then-log-eq0
+returns-2 c = sym (start-empty c.args.log.now c.if-log-ne0.false c.if-log-eq0.true)
 
-edition-of-requires : tie.Need-edition-of-requires
+edition-of-requires : tie.Need-edition_of-requires
 edition-of-requires c κs = search rules
 
-mark-size-requires : tie.Need-mark-size-requires
+mark-size-requires : tie.Need-mark_size-body-requires
 mark-size-requires c κs = search rules
 
 -- the log is some pages, and the mark is its edition's
-module _ (c : tie.After-mark-size) where
+module _ (c : tie.After-mark_size-body) where
   abbrev log : List ℕ
-  log = c.before.before.before.before.before.args.log.now
+  log = c.args.log.now
 
-  size : c.mark-size.result ≡ mark_size (edition_at log)
-  size = c.mark-size.ensures ∙ ap mark_size c.before.edition-of.ensures
+  size : c.mark_size-body.result ≡ mark_size (edition_at log)
+  size = c.mark_size-body.ensures ∙ ap mark_size c.edition_of.ensures
 
   pages : length log % 4096 ≡ 0
-  pages = c.before.before.before.if1.false
+  pages = c.if-log-ne0.false
 
   some : length log ≡ 0 → ⊥
-  some = c.before.before.if2.false
+  some = c.if-log-eq0.false
 
-  tag-at : (t : ℕ) → get_or log (c.mark-size.result - 1) 0 ≡ t → get_or log (mark_size (edition_at log) - 1) 0 ≡ t
+  tag-at : (t : ℕ) → get_or log (c.mark_size-body.result - 1) 0 ≡ t → get_or log (mark_size (edition_at log) - 1) 0 ≡ t
   tag-at t e = sym (ap (λ (m : ℕ). get_or log (m - 1) 0) size) ∙ e
 
-sub-if3 : tie.Need-overflow-sub-if3
+sub-if3 : tie.Need-overflow_sub-body
 sub-if3 c = omega (arith, size c, mark_some (edition_at (log c)))
 
-shared-slice-read-if3 : tie.Need-shared-slice-read-if3
+shared-slice-read-if3 : tie.Need-bounds-log-body
 shared-slice-read-if3 c = let k = c.before in omega (arith, size k, pages k, some k, mark_small (edition_at (log k)))
 
-returns-3 : tie.Need-returns-3
+returns-3 : tie.Need-returns-then-log-body-ne-WAL_ENTRY_TAG_START
 returns-3 c =
     let k = c.before.before in
-    sym (start-missing (log k) (pages k) (some k) (λ e. c.if3.true (ap (λ (m : ℕ). get_or (log k) (m - 1) 0) (size k) ∙ e)))
+    sym (start-missing (log k) (pages k) (some k) (λ e. c.if-log-body-ne-WAL_ENTRY_TAG_START.true (ap (λ (m : ℕ). get_or (log k) (m - 1) 0) (size k) ∙ e)))
 
-read-u32-requires : tie.Need-read-u32-requires
+read-u32-requires : tie.Need-read_u32-requires
 read-u32-requires c κs = search rules
 
-cast-t13 : tie.Need-overflow-cast-t13
+cast-t13 : tie.Need-overflow_cast-result
 cast-t13 c = search rules
 
-returns-4 : tie.Need-returns-4
+returns-4 : tie.Need-returns
 returns-4 c =
     let k = c.before.before.before in
-    ap given (c.read_u32.ensures ∙ ap (λ (m : ℕ). le (block 4 (log k) m)) (size k)) ∙ sym (start-given (log k) (pages k) (some k) (tag-at k 1 c.before.if3.false))
+    ap given (c.read_u32.ensures ∙ ap (λ (m : ℕ). le (block 4 (log k) m)) (size k)) ∙ sym (start-given (log k) (pages k) (some k) (tag-at k 1 c.if-log-body-ne-WAL_ENTRY_TAG_START.false))
 
 pub set_spec : {M : Type 1} → statement M
 set_spec =

@@ -7,59 +7,59 @@ use Rattle.wal_read.proofs.NextLaws.{tag_past, tag_one, tag-bare, tag-cut, tag-t
 use Rattle.wal_read.proofs.tag_at.Statement.{statement}
 use Rattle.wal_read.proofs.tag_at.Tie as tie
 
-returns : tie.Need-returns
-returns c = let args = c.before.args in sym (tag_past args.edition args.log.now args.at c.if1.true)
+returns : tie.Need-returns-then-log-at
+returns c = let args = c.args in sym (tag_past args.edition args.log.now args.at c.if-log-at.true)
 
-enum_told : tie.Need-enum-told
+enum_told : tie.Need-enum_told-1
 enum_told c = search rules
 
-enum-told-2 : tie.Need-enum-told-2
+enum-told-2 : tie.Need-enum_told-in_default
 enum-told-2 c = search rules
 
-shared-slice-read-t8 : tie.Need-shared-slice-read-t8
+shared-slice-read-t8 : tie.Need-bounds-log-at
 shared-slice-read-t8 c = search rules
 
-returns-2 : tie.Need-returns-2
+returns-2 : tie.Need-returns-in_default
 returns-2 c =
-    let tested = c.before.before.before in
-    let args = tested.before.args in
-    sym (ap (λ (e : Edition). tag_at e args.log.now args.at) c.before.enum-told2.given.1 ∙ tag_one args.log.now args.at tested.if1.false)
+    let tested = c.before.before in
+    let args = tested.args in
+    sym (ap (λ (e : Edition). tag_at e args.log.now args.at) c.in_default.is ∙ tag_one args.log.now args.at tested.if-log-at.false)
 
-shared-slice-read-if2 : tie.Need-shared-slice-read-if2
+shared-slice-read-if2 : tie.Need-bounds-log-at-2
 shared-slice-read-if2 c = search rules
 
-returns-3 : tie.Need-returns-3
+returns-3 : tie.Need-returns-then-log-at-2
 returns-3 c =
     let told = c.before.before in
-    let tested = told.before.before in
-    let args = tested.before.args in
-    sym (ap (λ (e : Edition). tag_at e args.log.now args.at) told.enum_told.given.1 ∙ tag-bare args.log.now args.at tested.if1.false c.if2.true)
+    let tested = told.before in
+    let args = tested.args in
+    sym (ap (λ (e : Edition). tag_at e args.log.now args.at) told.in-Two.is ∙ tag-bare args.log.now args.at tested.if-log-at.false c.if-log-at-2.true)
 
-sub-if3 : tie.Need-overflow-sub-if3
+sub-if3 : tie.Need-overflow_sub-log
 sub-if3 c = search rules
 
-returns-4 : tie.Need-returns-4
+returns-4 : tie.Need-returns-then-log-at-lt2
 returns-4 c =
     let told = c.before.before.before in
-    let tested = told.before.before in
-    let args = tested.before.args in
-    sym (ap (λ (e : Edition). tag_at e args.log.now args.at) told.enum_told.given.1 ∙ tag-cut args.log.now args.at tested.if1.false c.before.if2.false c.if3.true)
+    let tested = told.before in
+    let args = tested.args in
+    sym (ap (λ (e : Edition). tag_at e args.log.now args.at) told.in-Two.is ∙ tag-cut args.log.now args.at tested.if-log-at.false c.if-log-at-2.false c.if-log-at-lt2.true)
 
-add-t4 : tie.Need-overflow-add-t4
+add-t4 : tie.Need-overflow_add-result
 add-t4 c = search rules
 
-shared-slice-read-t10 : tie.Need-shared-slice-read-t10
+shared-slice-read-t10 : tie.Need-bounds-log-at-3
 shared-slice-read-t10 c = search rules
 
-returns-5 : tie.Need-returns-5
+returns-5 : tie.Need-returns
 returns-5 c =
     let told = c.before.before.before.before in
-    let tested = told.before.before in
-    let args = tested.before.args in
-    sym (ap (λ (e : Edition). tag_at e args.log.now args.at) told.enum_told.given.1 ∙ tag-two args.log.now args.at tested.if1.false c.before.before.if2.false c.before.if3.false)
+    let tested = told.before in
+    let args = tested.args in
+    sym (ap (λ (e : Edition). tag_at e args.log.now args.at) told.in-Two.is ∙ tag-two args.log.now args.at tested.if-log-at.false c.if-log-at-2.false c.if-log-at-lt2.false)
 
-pub tag-at-spec : {M : Type 1} → statement M
-tag-at-spec =
+pub tag_at_spec : {M : Type 1} → statement M
+tag_at_spec =
     tie.close
     (tie.spec
     returns

@@ -6,23 +6,23 @@ use Rattle.wal.specs.declared.AfterEnd.{AfterEnd}
 use Rattle.wal_read.proofs.wanted.Statement.{statement}
 use Rattle.wal_read.proofs.wanted.Tie as tie
 
-enum_told : tie.Need-enum-told
+enum_told : tie.Need-enum_told-1
 enum_told c = search rules
 
-zeros-from-requires : tie.Need-zeros-from-requires
+zeros-from-requires : tie.Need-zeros_from-requires
 zeros-from-requires c κs = search rules
 
-enum-told-2 : tie.Need-enum-told-2
+enum-told-2 : tie.Need-enum_told-in-Tolerant
 enum-told-2 c = search rules
 
-returns : tie.Need-returns
+returns : tie.Need-returns-in-Zeros
 returns c =
     let told = c.before in
-    let args = told.before.before.before.args in
-    c.zeros-from.ensures ∙ sym (ap (λ (r : AfterEnd). wanted r args.log.now args.from) told.enum_told.given.1)
+    let args = told.args in
+    c.zeros_from.ensures ∙ sym (ap (λ (r : AfterEnd). wanted r args.log.now args.from) told.in-Zeros.is)
 
-returns-2 : tie.Need-returns-2
+returns-2 : tie.Need-returns-in-Tolerant
 returns-2 c = search rules
 
-pub wanted-spec : {M : Type 1} → statement M
-wanted-spec = tie.close (tie.spec enum_told zeros-from-requires enum-told-2 returns returns-2)
+pub wanted_spec : {M : Type 1} → statement M
+wanted_spec = tie.close (tie.spec enum_told zeros-from-requires enum-told-2 returns returns-2)

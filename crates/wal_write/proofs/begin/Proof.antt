@@ -27,34 +27,34 @@ wide c =
 kept-requires : tie.Need-kept-requires
 kept-requires c κs = search rules
 
-returns : tie.Need-returns
+returns : tie.Need-returns-then-log-lt-PAGE_SIZE
 returns c =
     let start = c.before.before.before in
     let args = start.args in
     let log : List ℕ = args.log.now in
-    let left = refused_leaves (begin_answer log) args.w (begun start) log 0 (start_record args.start) 13 (outcome_said c.kept.result.outcome) c.kept.result.writer (begin_short log c.before.if1.true) c.kept.ensures.0 c.kept.ensures.1 in
+    let left = refused_leaves (begin_answer log) args.w (begun start) log 0 (start_record args.start) 13 (outcome_said c.kept.result.outcome) c.kept.result.writer (begin_short log c.if-log-lt-PAGE_SIZE.true) c.kept.ensures.0 c.kept.ensures.1 in
     (left.0, left.1, wide start)
 
-put-start-requires : tie.Need-put-start-requires
+put-start-requires : tie.Need-put_start-requires
 put-start-requires c κs = search rules
 
-start-size-requires : tie.Need-start-size-requires
+start-size-requires : tie.Need-start_size-requires
 start-size-requires c κs = search rules
 
-same_length : tie.Need-same-length
+same_length : tie.Need-shape_of-log
 same_length c = search rules
 
-returns-2 : tie.Need-returns-2
+returns-2 : tie.Need-returns
 returns-2 c =
     let called = c.before.before.before in
     let past = called.before.before in
     let start = past.before.before in
     let args = start.args in
     let log : List ℕ = args.log.now in
-    let left = given-leaves (begin_answer log) args.w (begun start) log 0 (start_record args.start) tt (given tt) (open_at args.start.edition c.start-size.result) called.put_start_lem.new.0 (begin_given log past.if1.false) refl (ap (open_at args.start.edition) c.start-size.ensures) called.put_start_lem.ensures.0 in
-    (left.0, left.1, called.put_start_lem.ensures.1)
+    let left = given-leaves (begin_answer log) args.w (begun start) log 0 (start_record args.start) tt (given tt) (open_at args.start.edition c.start_size.result) called.put_start.new.log (begin_given log past.if-log-lt-PAGE_SIZE.false) refl (ap (open_at args.start.edition) c.start_size.ensures) called.put_start.ensures.0 in
+    (left.0, left.1, called.put_start.ensures.1)
 
-pub begin-spec : {M : Type 1} → statement M
-begin-spec =
+pub begin_spec : {M : Type 1} → statement M
+begin_spec =
     tie.close
     (tie.spec kept-requires returns put-start-requires start-size-requires same_length returns-2)

@@ -15,51 +15,51 @@ use Rattle.wal_write.proofs.has_room.Tie as tie
 marks : (len at body m n : ℕ) → n ≡ 2 * m → leb (at + body + n) (len / 4096 * 4096) ≡ leb (at + (m + body) + m) (len / 4096 * 4096)
 marks len at body m n e = let same : at + body + n ≡ at + (m + body) + m = omega arith in ap (λ (k : ℕ). leb k (len / 4096 * 4096)) same
 
-enum_told : tie.Need-enum-told
+enum_told : tie.Need-enum_told-1
 enum_told c = search rules
 
-room-at-requires : tie.Need-room-at-requires
+room-at-requires : tie.Need-room_at-requires
 room-at-requires c κs = search rules
 
-enum-known-w : tie.Need-enum-known-w
+enum-known-w : tie.Need-enum_known-w
 enum-known-w c = search rules
 
-mark-size-requires : tie.Need-mark-size-requires
+mark-size-requires : tie.Need-mark_size-requires
 mark-size-requires c κs = search rules
 
-mul-room-at : tie.Need-overflow-mul-room-at
-mul-room-at c = omega (arith, c.mark-size.ensures, mark_small c.before.before.w.given.0.1.0)
+mul-room-at : tie.Need-overflow_mul-mark_size
+mul-room-at c = omega (arith, c.mark_size.ensures, mark_small c.in-Open.edition)
 
-room-at-requires-2 : tie.Need-room-at-requires-2
+room-at-requires-2 : tie.Need-room_at-requires-in-Open
 room-at-requires-2 c κs = search rules
 
-enum-told-2 : tie.Need-enum-told-2
+enum-told-2 : tie.Need-enum_told-in-Finished
 enum-told-2 c = search rules
 
-room-at-requires-3 : tie.Need-room-at-requires-3
+room-at-requires-3 : tie.Need-room_at-requires-in-Finished
 room-at-requires-3 c κs = search rules
 
-returns : tie.Need-returns
+returns : tie.Need-returns-in-Fresh
 returns c =
-    let args = c.before.before.before.args in
-    c.room_at.ensures ∙ marks args.log-len 0 args.body 1 2 (omega arith) ∙ sym (ap (λ (v : Writer). room_in args.log-len v args.body) c.before.enum_told.given.1)
+    let args = c.args in
+    c.room_at.ensures ∙ marks args.log_len 0 args.body 1 2 (omega arith) ∙ sym (ap (λ (v : Writer). room_in args.log_len v args.body) c.in-Fresh.is)
 
-returns-2 : tie.Need-returns-2
+returns-2 : tie.Need-returns-in-Open
 returns-2 c =
     let sized = c.before in
-    let told = sized.before.before in
-    let args = told.before.before.args in
-    c.room-at2.ensures
-    ∙ marks args.log-len told.w.given.0.0 args.body (mark_size told.w.given.0.1.0) (2 * sized.mark-size.result) (ap (λ (n : ℕ). 2 * n) sized.mark-size.ensures)
-    ∙ sym (ap (λ (v : Writer). room_in args.log-len v args.body) told.w.given.1)
+    let told = sized.before in
+    let args = told.args in
+    c.room_at-in-Open.ensures
+    ∙ marks args.log_len told.in-Open.at args.body (mark_size told.in-Open.edition) (2 * sized.mark_size.result) (ap (λ (n : ℕ). 2 * n) sized.mark_size.ensures)
+    ∙ sym (ap (λ (v : Writer). room_in args.log_len v args.body) told.in-Open.is)
 
-returns-3 : tie.Need-returns-3
+returns-3 : tie.Need-returns-in-Finished
 returns-3 c =
-    let args = c.before.before.before.args in
-    c.room-at3.ensures ∙ marks args.log-len 0 args.body 1 2 (omega arith) ∙ sym (ap (λ (v : Writer). room_in args.log-len v args.body) c.before.enum-told2.given.1)
+    let args = c.args in
+    c.room_at-in-Finished.ensures ∙ marks args.log_len 0 args.body 1 2 (omega arith) ∙ sym (ap (λ (v : Writer). room_in args.log_len v args.body) c.in-Finished.is)
 
-pub has-room-spec : {M : Type 1} → statement M
-has-room-spec =
+pub has_room_spec : {M : Type 1} → statement M
+has_room_spec =
     tie.close
     (tie.spec
     enum_told

@@ -13,48 +13,48 @@ use Rattle.wal_write.proofs.put_mark.Statement.{statement}
 use Rattle.wal_write.proofs.put_mark.Tie as tie
 
 -- the mark's bytes are in the slice
-two-fit : (c : tie.After-enum-told) → c.before.before.args.at + 2 ≤ length c.before.before.args.log.now
-two-fit c = omega (arith, c.before.before.requires, ap mark_size c.enum_told.given.1)
+two-fit : (c : tie.In-Two) → c.args.at + 2 ≤ length c.args.log.now
+two-fit c = omega (arith, c.requires, ap mark_size c.in-Two.is)
 
-one-fits : (c : tie.After-enum-told2) → c.before.before.args.at + 1 ≤ length c.before.before.args.log.now
-one-fits c = omega (arith, c.before.before.requires, ap mark_size c.enum-told2.given.1)
+one-fits : (c : tie.In_default) → c.args.at + 1 ≤ length c.args.log.now
+one-fits c = omega (arith, c.requires, ap mark_size c.in_default.is)
 
-enum_told : tie.Need-enum-told
+enum_told : tie.Need-enum_told-1
 enum_told c = search rules
 
-add-next : tie.Need-overflow-add-next
+add-next : tie.Need-overflow_add-next
 add-next c = search rules
 
-slice-write-log : tie.Need-slice-write-log
+slice-write-log : tie.Need-bounds-log-at
 slice-write-log c = omega (arith, two-fit c)
 
-slice-write-log-2 : tie.Need-slice-write-log-2
-slice-write-log-2 c = let args = c.before.before.args in omega (arith, two-fit c, length-set args.log.now args.at 0xB2)
+slice-write-log-2 : tie.Need-bounds-log-next
+slice-write-log-2 c = let args = c.args in omega (arith, two-fit c, length-set args.log.now args.at 0xB2)
 
-enum-told-2 : tie.Need-enum-told-2
+enum-told-2 : tie.Need-enum_told-in_default
 enum-told-2 c = search rules
 
-slice-write-log-3 : tie.Need-slice-write-log-3
+slice-write-log-3 : tie.Need-bounds-log-at-in_default
 slice-write-log-3 c = omega (arith, one-fits c)
 
-same_length : tie.Need-same-length
+same_length : tie.Need-shape_of-log-in-Two
 same_length c = search rules
 
-returns : tie.Need-returns
+returns : tie.Need-returns-in-Two
 returns c =
-    let args = c.before.before.args in
-    set_two args.log.now args.at 0xB2 args.tag (two-fit c) ∙ ap (λ (e : Edition). put args.log.now args.at (mark e args.tag)) (sym c.enum_told.given.1)
+    let args = c.args in
+    set_two args.log.now args.at 0xB2 args.tag (two-fit c) ∙ ap (λ (e : Edition). put args.log.now args.at (mark e args.tag)) (sym c.in-Two.is)
 
-same-length-2 : tie.Need-same-length-2
+same-length-2 : tie.Need-shape_of-log-in_default
 same-length-2 c = search rules
 
-returns-2 : tie.Need-returns-2
+returns-2 : tie.Need-returns-in_default
 returns-2 c =
-    let args = c.before.before.args in
-    set-put args.log.now args.at args.tag (omega (arith, one-fits c)) ∙ ap (λ (e : Edition). put args.log.now args.at (mark e args.tag)) (sym c.enum-told2.given.1)
+    let args = c.args in
+    set-put args.log.now args.at args.tag (omega (arith, one-fits c)) ∙ ap (λ (e : Edition). put args.log.now args.at (mark e args.tag)) (sym c.in_default.is)
 
-pub put-mark-spec : {M : Type 1} → statement M
-put-mark-spec =
+pub put_mark_spec : {M : Type 1} → statement M
+put_mark_spec =
     tie.close
     (tie.spec
     enum_told

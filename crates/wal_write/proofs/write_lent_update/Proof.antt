@@ -68,168 +68,168 @@ module _ (c : tie.Start) where
       (left.0, left.1, wide, λ ok. absurd (true≢false (sym ok ∙ ap accepted e)))
 
 -- an open writer
-module _ (c : tie.After-known-told) where
+module _ (c : tie.In-Open) where
   abbrev start : tie.Start
-  start = c.before.before.before.before
+  start = c.before.before
 
   abbrev at : ℕ
-  at = c.before.w.given.0.0
+  at = c.in-Open.at
 
   abbrev ed : Edition
-  ed = c.before.w.given.0.1.0
+  ed = c.in-Open.edition
 
   opened : w start ≡ open_at ed at
-  opened = c.before.w.given.1
+  opened = c.in-Open.is
 
 -- as many nodes as the diff marks
-module _ (c : tie.Else1) where
+module _ (c : tie.Else-count-held) where
   counted : held (start c.before.before) ≡ count_of (ws (start c.before.before))
-  counted = sym c.if1.false ∙ c.before.count.ensures
+  counted = sym c.if-count-held.false ∙ c.count.ensures
 
   fit : eqb (held (start c.before.before)) (count_of (ws (start c.before.before))) ≡ true
   fit = eq-eqb (held (start c.before.before)) (count_of (ws (start c.before.before))) counted
 
 -- marks of nodes alone
-module _ (c : tie.Else2) where
-  abbrev open-at : tie.After-known-told
+module _ (c : tie.Else-is_reserved) where
+  abbrev open-at : tie.In-Open
   open-at = c.before.before.before.before
 
   plain : reserved (ws (start open-at)) ≡ false
-  plain = sym c.before.is-reserved.ensures ∙ c.if2.false
+  plain = sym c.is_reserved.ensures ∙ c.if-is_reserved.false
 
   few : held (start open-at) ≤ 126
   few = let k = counted c.before.before in omega (arith, k, plain_count (ws (start open-at)) plain)
 
 -- the test of room, of the mark's size that the definition has
-module _ (c : tie.After-room-at) where
-  abbrev asked-at : tie.After-known-told
+module _ (c : tie.After-room_at) where
+  abbrev asked-at : tie.In-Open
   asked-at = open-at c.before.before
 
-  sized : c.before.mark-size.result ≡ mark_size (ed asked-at)
-  sized = c.before.mark-size.ensures
+  sized : c.mark_size-mark.result ≡ mark_size (ed asked-at)
+  sized = c.mark_size-mark.ensures
 
   room : c.room_at.result ≡ leb (at asked-at + size (start asked-at) (ed asked-at) + mark_size (ed asked-at)) (capacity (log (start asked-at)))
   room = c.room_at.ensures ∙ ap (λ (n : ℕ). leb (at asked-at + (n + (64 + 32 * held (start asked-at))) + n) (capacity (log (start asked-at)))) sized
 
 -- room
-module _ (c : tie.Else3) where
-  abbrev opens : tie.After-known-told
+module _ (c : tie.Else-not-room_at) where
+  abbrev opens : tie.In-Open
   opens = asked-at c.before
 
   abbrev m : ℕ
-  m = c.before.before.mark-size.result
+  m = c.mark_size-mark.result
 
   roomy : leb (at opens + size (start opens) (ed opens) + mark_size (ed opens)) (capacity (log (start opens))) ≡ true
-  roomy = sym (room c.before) ∙ not-false c.before.room_at.result c.if3.false
+  roomy = sym (room c.before) ∙ c.if-not-room_at.false
 
   fits : at opens + (m + (64 + 32 * held (start opens))) ≤ length (log (start opens))
   fits = omega (arith, leb-true (at opens + size (start opens) (ed opens) + mark_size (ed opens)) (capacity (log (start opens))) roomy, sized c.before)
 
-enum-known-w : tie.Need-enum-known-w
+enum-known-w : tie.Need-enum_known-w
 enum-known-w c = search rules
 
 kept-requires : tie.Need-kept-requires
 kept-requires c κs = search rules
 
-returns : tie.Need-returns
+returns : tie.Need-returns-in_default
 returns c =
     let s = c.before.before.before in
     refused-call s 12 c.kept.result
-    (update_tests (log s) (w s) (ws s) (held s) ∙ not-open (log s) (w s) (eqb (held s) (count_of (ws s))) (reserved (ws s)) (size s) (given tt) c.before.match.keys2) c.kept.ensures.0 c.kept.ensures.1
+    (update_tests (log s) (w s) (ws s) (held s) ∙ not-open (log s) (w s) (eqb (held s) (count_of (ws s))) (reserved (ws s)) (size s) (given tt) c.in_default.in_default-own.keys2) c.kept.ensures.0 c.kept.ensures.1
 
 count-requires : tie.Need-count-requires
 count-requires c κs = search rules
 
-kept-requires-2 : tie.Need-kept-requires-2
+kept-requires-2 : tie.Need-kept-requires-then-count-held
 kept-requires-2 c κs = search rules
 
-returns-2 : tie.Need-returns-2
+returns-2 : tie.Need-returns-then-count-held
 returns-2 c =
     let asked = c.before.before in
     let k = asked.before in
     let s = start k in
-    refused-call s 2 c.kept2.result
+    refused-call s 2 c.kept-then-count-held.result
     (update_tests (log s) (w s) (ws s) (held s)
-    ∙ unfit (log s) (w s) (eqb (held s) (count_of (ws s))) (reserved (ws s)) (size s) (given tt) (ed k) (at k) (opened k) (ne_eqb (held s) (count_of (ws s)) (λ q. c.before.if1.true (asked.count.ensures ∙ sym q)))) c.kept2.ensures.0 (c.kept2.ensures.1 ∙ sym (opened k))
+    ∙ unfit (log s) (w s) (eqb (held s) (count_of (ws s))) (reserved (ws s)) (size s) (given tt) (ed k) (at k) (opened k) (ne_eqb (held s) (count_of (ws s)) (λ q. c.if-count-held.true (asked.count.ensures ∙ sym q)))) c.kept-then-count-held.ensures.0 (c.kept-then-count-held.ensures.1 ∙ sym (opened k))
 
-is-reserved-requires : tie.Need-is-reserved-requires
+is-reserved-requires : tie.Need-is_reserved-requires
 is-reserved-requires c κs = search rules
 
-kept-requires-3 : tie.Need-kept-requires-3
+kept-requires-3 : tie.Need-kept-requires-then-is_reserved
 kept-requires-3 c κs = search rules
 
-returns-3 : tie.Need-returns-3
+returns-3 : tie.Need-returns-then-is_reserved
 returns-3 c =
     let asked = c.before.before in
     let past = asked.before in
     let k = past.before.before in
     let s = start k in
-    refused-call s 4 c.kept3.result
+    refused-call s 4 c.kept-then-is_reserved.result
     (update_tests (log s) (w s) (ws s) (held s)
-    ∙ reserved-bit (log s) (w s) (eqb (held s) (count_of (ws s))) (reserved (ws s)) (size s) (given tt) (ed k) (at k) (opened k) (fit past) (sym asked.is-reserved.ensures ∙ c.before.if2.true)) c.kept3.ensures.0 (c.kept3.ensures.1 ∙ sym (opened k))
+    ∙ reserved-bit (log s) (w s) (eqb (held s) (count_of (ws s))) (reserved (ws s)) (size s) (given tt) (ed k) (at k) (opened k) (fit past) (sym asked.is_reserved.ensures ∙ c.if-is_reserved.true)) c.kept-then-is_reserved.ensures.0 (c.kept-then-is_reserved.ensures.1 ∙ sym (opened k))
 
-mark-size-requires : tie.Need-mark-size-requires
+mark-size-requires : tie.Need-mark_size-mark-requires
 mark-size-requires c κs = search rules
 
-mul-size : tie.Need-overflow-mul-size
+mul-size : tie.Need-overflow_mul-size
 mul-size c = omega (arith, few c.before)
 
-add-size : tie.Need-overflow-add-size
+add-size : tie.Need-overflow_add-size
 add-size c = omega (arith, few c.before)
 
-add-size-2 : tie.Need-overflow-add-size-2
-add-size-2 c = omega (arith, few c.before, c.mark-size.ensures, mark_small (ed (open-at c.before)))
+add-size-2 : tie.Need-overflow_add-size-2
+add-size-2 c = omega (arith, few c.before, c.mark_size-mark.ensures, mark_small (ed (open-at c.before)))
 
-room-at-requires : tie.Need-room-at-requires
+room-at-requires : tie.Need-room_at-requires
 room-at-requires c κs = search rules
 
-kept-requires-4 : tie.Need-kept-requires-4
+kept-requires-4 : tie.Need-kept-requires-then-not-room_at
 kept-requires-4 c κs = search rules
 
-returns-4 : tie.Need-returns-4
+returns-4 : tie.Need-returns-then-not-room_at
 returns-4 c =
     let asked = c.before.before in
     let past = asked.before.before in
     let k = open-at past in
     let s = start k in
-    refused-call s 13 c.kept4.result
+    refused-call s 13 c.kept-then-not-room_at.result
     (update_tests (log s) (w s) (ws s) (held s)
-    ∙ no_room (log s) (w s) (eqb (held s) (count_of (ws s))) (reserved (ws s)) (size s) (given tt) (ed k) (at k) (opened k) (fit past.before.before) (plain past) (sym (room asked) ∙ not-true asked.room_at.result c.before.if3.true)) c.kept4.ensures.0 (c.kept4.ensures.1 ∙ sym (opened k))
+    ∙ no_room (log s) (w s) (eqb (held s) (count_of (ws s))) (reserved (ws s)) (size s) (given tt) (ed k) (at k) (opened k) (fit past.before.before) (plain past) (sym (room asked) ∙ c.if-not-room_at.true)) c.kept-then-not-room_at.ensures.0 (c.kept-then-not-room_at.ensures.1 ∙ sym (opened k))
 
-add_body : tie.Need-overflow-add-body
+add_body : tie.Need-overflow_add-body
 add_body c = omega (arith, fits c)
 
-put-head-requires : tie.Need-put-head-requires
+put-head-requires : tie.Need-put_head-requires
 put-head-requires c κs = omega (arith, fits c.before, sized c.before.before)
 
-add-put-nodes : tie.Need-overflow-add-put-nodes
+add-put-nodes : tie.Need-overflow_add-body-2
 add-put-nodes c = omega (arith, fits c.before.before.before.before.before)
 
-put-nodes-requires : tie.Need-put-nodes-requires
+put-nodes-requires : tie.Need-put_nodes-requires
 put-nodes-requires c κs =
     let head = c.before.before.before in
     let past = head.before.before in
-    (few past.before.before.before, omega (arith, fits past, head.put-head.auto.0))
+    (few past.before.before.before, omega (arith, fits past, head.put_head.auto.log))
 
-sub-put-tail : tie.Need-overflow-sub-put-tail
+sub-put-tail : tie.Need-overflow_sub-size
 sub-put-tail c = search rules
 
-add-put-tail : tie.Need-overflow-add-put-tail
+add-put-tail : tie.Need-overflow_add-at
 add-put-tail c = omega (arith, fits c.before.before.before.before.before.before.before.before.before)
 
-put-tail-requires : tie.Need-put-tail-requires
+put-tail-requires : tie.Need-put_tail-requires
 put-tail-requires c κs =
     let nodes = c.before.before.before in
     let head = nodes.before.before.before.before in
-    omega (arith, fits head.before.before, head.put-head.auto.0, nodes.put-nodes.auto.0)
+    omega (arith, fits head.before.before, head.put_head.auto.log, nodes.put_nodes.auto.log)
 
-add-t20 : tie.Need-overflow-add-t20
+add-t20 : tie.Need-overflow_add-result
 add-t20 c = omega (arith, fits c.before.before.before.before.before.before.before.before.before.before.before.before)
 
-same_length : tie.Need-same-length
+same_length : tie.Need-shape_of-log
 same_length c = search rules
 
-returns-5 : tie.Need-returns-5
+returns-5 : tie.Need-returns
 returns-5 c =
     let tail = c.before.before in
     let nodes = tail.before.before.before.before in
@@ -239,17 +239,17 @@ returns-5 c =
     let s = start k in
     let ns : List (List ℕ) = take (held s) s.args.nodes.now in
     let end : List ℕ = s.args.elided ++ bytes_of 8 s.args.bucket in
-    let left = record-given (answer s) (log s) (w s) (size s) (bytes s) (ed k) (at k) (open_at (ed k) (at k + (m past + (64 + 32 * held s)))) tail.put-tail.new.0 (opened k)
+    let left = record-given (answer s) (log s) (w s) (size s) (bytes s) (ed k) (at k) (open_at (ed k) (at k + (m past + (64 + 32 * held s)))) tail.put_tail.new.log (opened k)
     (update_tests (log s) (w s) (ws s) (held s)
     ∙ taken (log s) (w s) (eqb (held s) (count_of (ws s))) (reserved (ws s)) (size s) (given tt) (ed k) (at k) (opened k) (fit past.before.before.before.before.before) (plain past.before.before.before) (roomy past))
     (ap (λ (n : ℕ). open_at (ed k) (at k + (n + (64 + 32 * held s)))) (sized past.before))
-    (tail.put-tail.ensures.0
-    ∙ ap (λ (l : List ℕ). put l (at k + (m past + (64 + 32 * held s) - 16)) end) (nodes.put-nodes.ensures.0 ∙ ap (λ (l : List ℕ). put l (at k + m past + 48) (flat ns)) head.put-head.ensures.0)
-    ∙ put-update (ed k) (m past) (sized past.before) (log s) (at k) s.args.id (ws s) head.put-head.ensures.1 ns s.args.elided s.args.bucket (held s) nodes.put-nodes.ensures.1 tail.put-tail.ensures.1 (fits past)) in
-    (left.0, left.1, wide s, λ ok. nodes.put-nodes.ensures.2)
+    (tail.put_tail.ensures.0
+    ∙ ap (λ (l : List ℕ). put l (at k + (m past + (64 + 32 * held s) - 16)) end) (nodes.put_nodes.ensures.0 ∙ ap (λ (l : List ℕ). put l (at k + m past + 48) (flat ns)) head.put_head.ensures.0)
+    ∙ put-update (ed k) (m past) (sized past.before) (log s) (at k) s.args.id (ws s) head.put_head.ensures.1 ns s.args.elided s.args.bucket (held s) nodes.put_nodes.ensures.1 tail.put_tail.ensures.1 (fits past)) in
+    (left.0, left.1, wide s, λ ok. nodes.put_nodes.ensures.2)
 
-pub write-lent-update-spec : {M : Type 1} → statement M
-write-lent-update-spec =
+pub write_lent_update_spec : {M : Type 1} → statement M
+write_lent_update_spec =
     tie.close
     (tie.spec
     enum-known-w
