@@ -10,23 +10,23 @@ use Rattle.wal_list.proofs.Decimal.{few, spelt}
 use Rattle.wal_list.proofs.put_decimal.Statement.{statement}
 use Rattle.wal_list.proofs.put_decimal.Tie as tie
 
-decimal-requires : tie.Need-decimal-requires
+decimal-requires : tie.Need-decimal-k-requires
 decimal-requires c κs = search rules
 
-array-share-prefix-digits : tie.Need-array-share-prefix-digits
+array-share-prefix-digits : tie.Need-slice_bounds-digits-end
 array-share-prefix-digits c = search rules
 
-slice-aggregate-put-text : tie.Need-slice-aggregate-put-text
+slice-aggregate-put-text : tie.Need-slice_bounds-put_text-end
 slice-aggregate-put-text c = search rules
 
-put-text-requires : tie.Need-put-text-requires
+put-text-requires : tie.Need-put_text-requires
 put-text-requires c κs =
     let spell = c.before.before in
     let start = spell.before.before.before in
-    let short : spell.decimal.result ≤ 20 = few start.args.n spell.decimal.result start.ranges.n.fits spell.decimal.ensures.1.0 in
+    let short : spell.decimal-k.result ≤ 20 = few start.args.n spell.decimal-k.result start.ranges.n.fits spell.decimal-k.ensures.1.0 in
     omega arith
 
-same_length : tie.Need-same-length
+same_length : tie.Need-shape_of-line
 same_length c = search rules
 
 returns : tie.Need-returns
@@ -34,11 +34,11 @@ returns c =
     let text = c.before.before in
     let spell = text.before.before.before in
     let start = spell.before.before.before in
-    let same : take spell.decimal.result spell.decimal.new.1.0 ≡ decimal start.args.n = spell.decimal.ensures.1.1 ∙ spelt start.args.n spell.decimal.result start.ranges.n.fits spell.decimal.ensures.1.0 in
-    (text.put-text.ensures.0 ∙ ap (put start.args.line.now start.args.at) same, omega (arith, ap length same))
+    let same : take spell.decimal-k.result spell.decimal-k.new.out ≡ decimal start.args.n = spell.decimal-k.ensures.1.1.0 ∙ spelt start.args.n spell.decimal-k.result start.ranges.n.fits spell.decimal-k.ensures.1.0 in
+    (text.put_text.ensures.0 ∙ ap (put start.args.line.now start.args.at) same, omega (arith, ap length same))
 
-pub put-decimal-spec : {M : Type 1} → statement M
-put-decimal-spec =
+pub put_decimal_spec : {M : Type 1} → statement M
+put_decimal_spec =
     tie.close
     (tie.spec
     decimal-requires

@@ -7,24 +7,24 @@ use borrow.Author.Rules.{rules}
 use Rattle.wal_list.proofs.refusal.Statement.{statement}
 use Rattle.wal_list.proofs.refusal.Tie as tie
 
-enum_told : tie.Need-enum-told
+enum_told : tie.Need-enum_told-1
 enum_told c = search rules
 
-enum-known-a : tie.Need-enum-known-a
+enum-known-a : tie.Need-enum_known-a
 enum-known-a c = search rules
 
-number-of-requires : tie.Need-number-of-requires
+number-of-requires : tie.Need-number_of-requires
 number-of-requires c κs = search rules
 
-cast-result : tie.Need-overflow-cast-result
+cast-result : tie.Need-overflow_cast-result
 cast-result c = search rules
 
-returns : tie.Need-returns
+returns : tie.Need-returns-in-Is
 returns c = search rules
 
-returns-2 : tie.Need-returns-2
-returns-2 c = c.number_of_lem.ensures ∙ sym (ap (λ (x : Number). refusal_of (number_said x)) c.before.before.a.given.1)
+returns-2 : tie.Need-returns-in-Refused
+returns-2 c = c.number_of.ensures ∙ sym (ap (λ (x : Number). refusal_of (number_said x)) c.in-Refused.is)
 
-pub refusal-spec : {M : Type 1} → statement M
-refusal-spec =
+pub refusal_spec : {M : Type 1} → statement M
+refusal_spec =
     tie.close (tie.spec enum_told enum-known-a number-of-requires cast-result returns returns-2)
