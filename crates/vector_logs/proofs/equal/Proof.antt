@@ -3,38 +3,38 @@ use Rattle.std.proofs.Common.{◌-◌, ◌≤◌, length, rules}
 use Rattle.vector_logs.proofs.equal.Statement.{statement}
 use Rattle.vector_logs.proofs.equal.Tie as tie
 
-abbrev invariant-loop : tie.invariant-loop
+abbrev invariant-loop : tie.invariant-loop-i
 invariant-loop a b i₀ i = i ≤ length a
 
-abbrev decreases-loop : tie.decreases-loop
+abbrev decreases-loop : tie.decreases-loop-i
 decreases-loop a b i₀ i = length a - i
 
-loop-holds : tie.Need-loop-init invariant-loop decreases-loop
+loop-holds : tie.Need-loop-i-init invariant-loop decreases-loop
 loop-holds c = search rules
 
-shared-slice-read-if1 : tie.Need-shared-slice-read-if1 invariant-loop decreases-loop
+shared-slice-read-if1 : tie.Need-bounds-a-i invariant-loop decreases-loop
 shared-slice-read-if1 c = search rules
 
 byte-requires : tie.Need-byte-requires invariant-loop decreases-loop
 byte-requires c κs = search rules
 
-returns : tie.Need-returns invariant-loop decreases-loop
+returns : tie.Need-returns-then-a-i invariant-loop decreases-loop
 returns c = search rules
 
-add-i : tie.Need-overflow-add-i invariant-loop decreases-loop
+add-i : tie.Need-overflow_add-i invariant-loop decreases-loop
 add-i c = search rules
 
-loop-less : tie.Need-loop-smaller invariant-loop decreases-loop
+loop-less : tie.Need-loop-i-smaller invariant-loop decreases-loop
 loop-less c = search rules
 
-loop-again : tie.Need-loop-preserved invariant-loop decreases-loop
+loop-again : tie.Need-loop-i-preserved invariant-loop decreases-loop
 loop-again c = search rules
 
-returns-2 : tie.Need-returns-2 invariant-loop decreases-loop
+returns-2 : tie.Need-returns invariant-loop decreases-loop
 returns-2 c = search rules
 
-pub equal-spec : {M : Type 1} → statement M
-equal-spec =
+pub equal_spec : {M : Type 1} → statement M
+equal_spec =
     tie.close
     (tie.spec
     invariant-loop

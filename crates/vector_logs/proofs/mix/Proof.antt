@@ -3,38 +3,38 @@ use Rattle.std.proofs.Common.{◌≡◌, ◌-◌, ◌≤◌, length, rules}
 use Rattle.vector_logs.proofs.mix.Statement.{statement}
 use Rattle.vector_logs.proofs.mix.Tie as tie
 
-abbrev invariant-loop : tie.invariant-loop
+abbrev invariant-loop : tie.invariant-loop-i
 invariant-loop to₀ low high position i₀ to i = (i ≤ length to₀) × (length to ≡ length to₀)
 
-abbrev decreases-loop : tie.decreases-loop
+abbrev decreases-loop : tie.decreases-loop-i
 decreases-loop to₀ low high position i₀ to i = length to₀ - i
 
-loop-holds : tie.Need-loop-init invariant-loop decreases-loop
+loop-holds : tie.Need-loop-i-init invariant-loop decreases-loop
 loop-holds c = search rules
 
 mixed-requires : tie.Need-mixed-requires invariant-loop decreases-loop
 mixed-requires c κs = search rules
 
-slice-write-to : tie.Need-slice-write-to invariant-loop decreases-loop
+slice-write-to : tie.Need-bounds-to-i invariant-loop decreases-loop
 slice-write-to c = search rules
 
-add-i : tie.Need-overflow-add-i invariant-loop decreases-loop
+add-i : tie.Need-overflow_add-i invariant-loop decreases-loop
 add-i c = search rules
 
-loop-less : tie.Need-loop-smaller invariant-loop decreases-loop
+loop-less : tie.Need-loop-i-smaller invariant-loop decreases-loop
 loop-less c = search rules
 
-loop-again : tie.Need-loop-preserved invariant-loop decreases-loop
+loop-again : tie.Need-loop-i-preserved invariant-loop decreases-loop
 loop-again c = search rules
 
-same_length : tie.Need-same-length invariant-loop decreases-loop
+same_length : tie.Need-shape_of-to invariant-loop decreases-loop
 same_length c = search rules
 
 returns : tie.Need-returns invariant-loop decreases-loop
 returns c = search rules
 
-pub mix-spec : {M : Type 1} → statement M
-mix-spec =
+pub mix_spec : {M : Type 1} → statement M
+mix_spec =
     tie.close
     (tie.spec
     invariant-loop
