@@ -11,7 +11,7 @@ use Rattle.answers.specs.Answers.{given, refused}
 use Rattle.blocks.specs.Blocks.{le, bytes_of, block, same_bytes}
 use Rattle.blocks.proofs.Laws.{AllBytes, block_at, bytes_of-block, le-bytes_of}
 use Rattle.blocks.proofs.Same.{same_equal, equal_same}
-use Rattle.rehash.specs.Marker.{magic, marker, counts_of, read_answer, written_marker}
+use Rattle.rehash.specs.Marker.{magic, counts_of, read_answer, written_marker}
 
 -- the magic as a number
 abbrev pub magic_number : ℕ

@@ -1,7 +1,5 @@
 pub mod Accepted
-pub mod Again
 pub mod Examples
-pub mod Frame
 pub mod Labels
 pub mod LiveTags
 pub mod Logged
@@ -12,7 +10,6 @@ pub mod Plans
 pub mod Promises
 pub mod Refused
 pub mod Replayed
-pub mod Shared
 pub mod StartLaws
 pub mod StepLaws
 pub mod SyncLaws

@@ -17,7 +17,7 @@ use Rattle.sync.specs.contracts.Change as T
 use Rattle.sync.specs.contracts.SyncStart as S
 
 -- each element of an array of u64 fits
-elements_fit : (xs : List ℕ) (us : List Val) → shadow (each ℕ u64.own_val (map (λ v. v) xs) us) → (i : ℕ) → get_or xs i 0 < 2 ^ 64
+elements_fit : (xs : List ℕ) (us : List Val) → shadow (each ℕ u64.own_val xs us) → (i : ℕ) → get_or xs i 0 < 2 ^ 64
 elements_fit [] us s i = omega arith
 elements_fit (x ∷ xs) [] s i = absurd s
 elements_fit (x ∷ xs) (u ∷ us) s zero = s.0.1

@@ -7,7 +7,7 @@ ghost use Rattle.std.specs.Prelude.{◌≡◌, true, [], ◌≤◌, ◌<◌, len
 ghost use Rattle.answers.specs.Answers.{given, refused};
 ghost use Rattle.answers.specs.Refusals.{number_of};
 ghost use Rattle.ht_file.specs.Places.{tags_fit, bucket_page};
-ghost use Rattle.sync.specs.Change.{mem_of, where_of, place_of, by_named, does_of, taken_said, StepPromise, state_of};
+ghost use Rattle.sync.specs.Change.{Wide, mem_of, where_of, place_of, by_named, does_of, taken_said, StepPromise, state_of};
 ghost use Rattle.sync_parts.specs.Parts.{bucket};
 ghost use Rattle.sync_parts.specs.declared.Where.TheVariants.{Known, Fresh as FreshPage, Cell};
 ghost use Rattle.sync.specs.InnerChange.{planned_said, LookPromise};
@@ -322,7 +322,8 @@ pub fn step(
     }
 }
 
-// Change j of a sync, whose page is the j-th of the lent pages. A sync that was refused stays as it is.
+// Change j of a sync, whose page is the j-th of the lent pages. A sync that was refused stays as it is. What the types
+// say of the change's parts is handed out.
 pub fn change_at(
     tags: &mut [u8],
     marks: &mut [u8],
@@ -333,7 +334,8 @@ pub fn change_at(
     j: usize,
     run: Run,
 ) -> Run
-    ensures { ChangePromise (mem_of tags.old marks.old cells.old log.old) pages.now c j run result (mem_of tags.new marks.new cells.new log.new) }
+    ensures goes { ChangePromise (mem_of tags.old marks.old cells.old log.old) pages.now c j run result (mem_of tags.new marks.new cells.new log.new) }
+    ensures wide { Wide c }
 {
     let Run::On(st) = run else {
         return run;

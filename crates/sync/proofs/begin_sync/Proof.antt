@@ -45,84 +45,84 @@ module _ (c : tie.Start) where
   wide = typed_start s _ c.well_formed.1.1.1.1.1.0
 
 -- the tags fit
-module _ (c : tie.After-enum-told) where
+module _ (c : tie.In_default) where
   abbrev start : tie.Start
-  start = c.before.before.before.before.before.before.before
+  start = c.before.before.before.before.before.before
 
   fits : tags_fit (s start).n (length (tags start)) ≡ true
-  fits = table_fits (tags_fit (s start).n (length (tags start))) (sym c.before.before.check-tags.ensures ∙ ap outcome_said c.enum_told.given.1)
+  fits = table_fits (tags_fit (s start).n (length (tags start))) (sym c.check_tags-fit.ensures ∙ ap outcome_said c.in_default.is)
 
 -- a page for each change, and the marks
-module _ (c : tie.Else2) where
+module _ (c : tie.Else-pages-ne0) where
   abbrev first : tie.Start
   first = start c.before.before
 
   whole : length (pages first) ≡ 4096 * count first
-  whole = omega (arith, c.before.if1.false, c.if2.false)
+  whole = omega (arith, c.if-pages-count.false, c.if-pages-ne0.false)
 
-module _ (c : tie.Else3) where
+module _ (c : tie.Else-marks-tag_pages) where
   abbrev marked : length (marks (first c.before.before)) ≡ tag_pages (s (first c.before.before)).n
-  marked = c.if3.false ∙ c.before.tag-pages.ensures
+  marked = c.if-marks-tag_pages.false ∙ c.tag_pages.ensures
 
-check-tags-requires : tie.Need-check-tags-requires
+check-tags-requires : tie.Need-check_tags-fit-requires
 check-tags-requires c κs = search rules
 
-enum-known-fit : tie.Need-enum-known-fit
+enum-known-fit : tie.Need-enum_known-fit
 enum-known-fit c = search rules
 
-returns : tie.Need-returns
-returns c = let o = c.before.before.before.before.before.before.before.before in let why = c.before.fit.given.0.0 in begin-refused (s o).n (tags o) (marks o) (log o) (pages o) (count o) (s o).log_start (s o).writer (wide o) (number_of why) (start-unfit (s o).n (tags o) (marks o) (log o) (pages o) (count o) (number_of why) (sym c.before.before.before.check-tags.ensures ∙ ap outcome_said c.before.fit.given.1))
+returns : tie.Need-returns-in-Refused
+returns c = let o = c.before.before.before.before.before.before in let why = c.in-Refused.why in begin-refused (s o).n (tags o) (marks o) (log o) (pages o) (count o) (s o).log_start (s o).writer (wide o) (number_of why) (start-unfit (s o).n (tags o) (marks o) (log o) (pages o) (count o) (number_of why) (sym c.check_tags-fit.ensures ∙ ap outcome_said c.in-Refused.is))
 
-enum_told : tie.Need-enum-told
+enum_told : tie.Need-enum_told-1
 enum_told c = search rules
 
-returns-2 : tie.Need-returns-2
-returns-2 c = let t = c.before in let o = start t in begin-refused (s o).n (tags o) (marks o) (log o) (pages o) (count o) (s o).log_start (s o).writer (wide o) 2 (start-pages (s o).n (tags o) (marks o) (log o) (pages o) (count o) (fits t) (λ e. c.if1.true (omega (arith, e))))
+returns-2 : tie.Need-returns-then-pages-count
+returns-2 c = let t = c.before in let o = start t in begin-refused (s o).n (tags o) (marks o) (log o) (pages o) (count o) (s o).log_start (s o).writer (wide o) 2 (start-pages (s o).n (tags o) (marks o) (log o) (pages o) (count o) (fits t) (λ e. c.if-pages-count.true (omega (arith, e))))
 
-returns-3 : tie.Need-returns-3
-returns-3 c = let t = c.before.before in let o = start t in begin-refused (s o).n (tags o) (marks o) (log o) (pages o) (count o) (s o).log_start (s o).writer (wide o) 2 (start-pages (s o).n (tags o) (marks o) (log o) (pages o) (count o) (fits t) (λ e. c.if2.true (omega (arith, e))))
+returns-3 : tie.Need-returns-then-pages-ne0
+returns-3 c = let t = c.before.before in let o = start t in begin-refused (s o).n (tags o) (marks o) (log o) (pages o) (count o) (s o).log_start (s o).writer (wide o) 2 (start-pages (s o).n (tags o) (marks o) (log o) (pages o) (count o) (fits t) (λ e. c.if-pages-ne0.true (omega (arith, e))))
 
-tag-pages-requires : tie.Need-tag-pages-requires
+tag-pages-requires : tie.Need-tag_pages-requires
 tag-pages-requires c κs = search rules
 
-returns-4 : tie.Need-returns-4
-returns-4 c = let e = c.before.before in let t = e.before.before in let o = start t in begin-refused (s o).n (tags o) (marks o) (log o) (pages o) (count o) (s o).log_start (s o).writer (wide o) 2 (start-marks (s o).n (tags o) (marks o) (log o) (pages o) (count o) (fits t) (whole e) (λ q. c.if3.true (q ∙ sym c.before.tag-pages.ensures)))
+returns-4 : tie.Need-returns-then-marks-tag_pages
+returns-4 c = let e = c.before.before in let t = e.before.before in let o = start t in begin-refused (s o).n (tags o) (marks o) (log o) (pages o) (count o) (s o).log_start (s o).writer (wide o) 2 (start-marks (s o).n (tags o) (marks o) (log o) (pages o) (count o) (fits t) (whole e) (λ q. c.if-marks-tag_pages.true (q ∙ sym c.tag_pages.ensures)))
 
-begin-requires : tie.Need-begin-requires
+begin-requires : tie.Need-begin-begun-requires
 begin-requires c κs = search rules
 
-enum-known-outcome : tie.Need-enum-known-outcome
+enum-known-outcome : tie.Need-enum_known-outcome
 enum-known-outcome c = search rules
 
-same_length : tie.Need-same-length
+same_length : tie.Need-shape_of-log-in-Refused-outcome
 same_length c = search rules
 
-returns-5 : tie.Need-returns-5
-returns-5 c = let u = c.before.before.before.before.before.before.before.before in let e = u.before.before in let t = e.before.before in let o = start t in let b = c.before.before.before.before.before.begin in let why = c.before.outcome.given.0.0 in let h = sym b.ensures.0 ∙ ap outcome_said c.before.outcome.given.1 in let g = begin-refused (s o).n (tags o) (marks o) (log o) (pages o) (count o) (s o).log_start (s o).writer (wide o) (number_of why) (start-begin (s o).n (tags o) (marks o) (log o) (pages o) (count o) (fits t) (whole e) (marked u) ∙ h) in (g.0, (ap (mem_of (tags o) (marks o) []) (b.ensures.1.1 ∙ begun-left (log o) (s o).log_start (number_of why) h) ∙ g.1.0, g.1.1))
+returns-5 : tie.Need-returns-in-Refused-outcome
+returns-5 c = let u = c.before.before.before.before.before.before in let e = u.before.before in let t = e.before.before in let o = start t in let b = c.begin-begun in let why = c.in-Refused-outcome.why in let h = sym b.ensures.0 ∙ ap outcome_said c.in-Refused-outcome.is in let g = begin-refused (s o).n (tags o) (marks o) (log o) (pages o) (count o) (s o).log_start (s o).writer (wide o) (number_of why) (start-begin (s o).n (tags o) (marks o) (log o) (pages o) (count o) (fits t) (whole e) (marked u) ∙ h) in (g.0, (ap (mem_of (tags o) (marks o) []) (b.ensures.1.1 ∙ begun-left (log o) (s o).log_start (number_of why) h) ∙ g.1.0, g.1.1))
 
-enum-told-2 : tie.Need-enum-told-2
+enum-told-2 : tie.Need-enum_told-in_default-outcome
 enum-told-2 c = search rules
 
-zero-all-requires : tie.Need-zero-all-requires
+zero-all-requires : tie.Need-zero_all-requires
 zero-all-requires c κs = search rules
 
-hit-limit-requires : tie.Need-hit-limit-requires
+hit-limit-requires : tie.Need-hit_limit-requires
 hit-limit-requires c κs = search rules
 
-full-tags-requires : tie.Need-full-tags-requires
+full-tags-requires : tie.Need-full_tags-requires
 full-tags-requires c κs = search rules
 
-same-length-2 : tie.Need-same-length-2
+same-length-2 : tie.Need-shape_of-marks
 same-length-2 c = search rules
 
-same-length-3 : tie.Need-same-length-3
+same-length-3 : tie.Need-shape_of-log
 same-length-3 c = search rules
 
-returns-6 : tie.Need-returns-6
-returns-6 c = let u = c.before.before.before.before.before.before.before.before.before.before.before.before.before in let e = u.before.before in let t = e.before.before in let o = start t in let b = c.before.before.before.before.before.before.before.before.before.before.begin in let h = sym b.ensures.0 ∙ ap outcome_said c.before.before.before.before.before.before.enum-told2.given.1 in begin_given (s o).n (tags o) (marks o) (log o) (pages o) (count o) (s o).log_start (s o).writer (wide o) (state_of (s o).n c.before.hit-limit.result b.result.writer c.full_tags_lem.result) (mem_of (tags o) c.before.before.before.before.zero-all.new.0 [] b.new.0) (start-begin (s o).n (tags o) (marks o) (log o) (pages o) (count o) (fits t) (whole e) (marked u) ∙ h) (ap (λ (x : Limit). state_of (s o).n x b.result.writer c.full_tags_lem.result) c.before.hit-limit.ensures ∙ ap₂ (state_of (s o).n hit_limit) (b.ensures.1.0 ∙ begun-open (log o) (s o).log_start h) (c.full_tags_lem.ensures ∙ ap (λ (y : Bool). cond y (count_of full (tags o) (s o).n) 0) (fits t))) (ap₂ (λ (x y : List ℕ). mem_of (tags o) x [] y) c.before.before.before.before.zero-all.ensures b.ensures.1.1)
+returns-6 : tie.Need-returns
+returns-6 c = let u = c.before.before.before.before.before.before.before.before.before.before.before.before in let e = u.before.before in let t = e.before.before in let o = start t in let b = c.begin-begun in let h = sym b.ensures.0 ∙ ap outcome_said c.in_default-outcome.is in begin_given (s o).n (tags o) (marks o) (log o) (pages o) (count o) (s o).log_start (s o).writer (wide o) (state_of (s o).n c.hit_limit.result b.result.writer c.full_tags.result) (mem_of (tags o) c.zero_all.new.s [] b.new.log) (start-begin (s o).n (tags o) (marks o) (log o) (pages o) (count o) (fits t) (whole e) (marked u) ∙ h) (ap (λ (x : Limit). state_of (s o).n x b.result.writer c.full_tags.result) c.hit_limit.ensures ∙ ap₂ (state_of (s o).n hit_limit) (b.ensures.1.0 ∙ begun-open (log o) (s o).log_start h) (c.full_tags.ensures ∙ ap (λ (y : Bool). cond y (count_of full (tags o) (s o).n) 0) (fits t))) (ap₂ (λ (x y : List ℕ). mem_of (tags o) x [] y) c.zero_all.ensures b.ensures.1.1)
 
-pub begin-sync-spec : {M : Type 1} → statement M
-begin-sync-spec =
+pub begin_sync_spec : {M : Type 1} → statement M
+begin_sync_spec =
     tie.close
     (tie.spec
     check-tags-requires

@@ -13,22 +13,24 @@ use Rattle.sync.specs.declared.SyncState.{SyncState}
 use Rattle.sync.specs.declared.Run.TheVariants as run
 use Rattle.sync.proofs.StartLaws.{page-there, page-none, change_none, change-refused, change-given, change-mem}
 use borrow.Author.Rules.{rules}
+use Rattle.sync.proofs.Widths.{typed_wide}
 use Rattle.sync.proofs.change_at.Statement.{statement}
+use Rattle.sync.proofs.change_at.Lts.{then-j-pages, else-j-pages}
 use Rattle.sync.proofs.change_at.Tie as tie
 
 -- the state that the sync goes on with; the part of the pages that is lent lies within them, and is the change's page
-module _ (c : tie.Joined1) where
+module _ (c : tie.Joined-j-pages) where
   abbrev o : tie.Start
-  o = c.before.before.before.before.before.before.before.before.before
+  o = c.before.before.before.before.before.before.before
 
   abbrev ch : Change
   ch = o.args.c
 
   abbrev st : SyncState
-  st = c.before.before.run.given.0.0
+  st = c.in-On.st
 
   is-on : o.args.run ≡ run.On st
-  is-on = c.before.before.run.given.1
+  is-on = c.in-On.is
 
   abbrev m : Mem
   m = mem_of o.args.tags.now o.args.marks.now o.args.cells.now o.args.log.now
@@ -40,30 +42,30 @@ module _ (c : tie.Joined1) where
   j = o.args.j
 
   abbrev a : ℕ
-  a = c.if1.a
+  a = c.if-j-pages.a
 
   abbrev e : ℕ
-  e = c.if1.e
+  e = c.if-j-pages.e
 
   abbrev page : List ℕ
   page = take (e - a) (drop a pages)
 
   order : a ≤ e
-  order = ⊎_elim (λ h. omega (arith, h.1, h.2)) (λ h. omega (arith, h.1, h.2)) c.if1.branch
+  order = elim c.if-j-pages.branch [ then-j-pages h ↦ omega arith | else-j-pages h ↦ omega arith ]
 
   reach : e ≤ length pages
-  reach = ⊎_elim (λ h. omega (arith, h.0.taken, h.1, h.2)) (λ h. omega (arith, h.1, h.2)) c.if1.branch
+  reach = elim c.if-j-pages.branch [ then-j-pages h ↦ omega arith | else-j-pages h ↦ omega arith ]
 
   same : page ≡ page_of pages j
   same =
-      ⊎_elim
-      (λ h.
-      let k : e - a ≡ 4096 = omega (arith, h.1, h.2) in
-      ap₂ (λ (x y : ℕ). take x (drop y pages)) k h.1 ∙ sym (page-there pages j h.0.taken))
-      (λ h.
-      let k : e - a ≡ 0 = omega (arith, h.1, h.2) in
-      ap₂ (λ (x y : ℕ). take x (drop y pages)) k h.1 ∙ sym (page-none pages j h.0.left))
-      c.if1.branch
+      elim c.if-j-pages.branch [
+        | then-j-pages h ↦
+            let k : e - a ≡ 4096 = omega arith in
+            ap₂ (λ (x y : ℕ). take x (drop y pages)) k h.a-is ∙ sym (page-there pages j h.if-j-pages.true)
+        | else-j-pages h ↦
+            let k : e - a ≡ 0 = omega arith in
+            ap₂ (λ (x y : ℕ). take x (drop y pages)) k h.a-is ∙ sym (page-none pages j h.if-j-pages.false)
+      ]
 
   -- what it is told on of: the sync as it was lent
   as-going : change_going m pages ch j (run_said (run.On st)) ≡ change_going m pages ch j (run_said o.args.run)
@@ -72,68 +74,68 @@ module _ (c : tie.Joined1) where
   as-left : change_left m pages ch j (run_said (run.On st)) ≡ change_left m pages ch j (run_said o.args.run)
   as-left = sym (ap (λ (x : Run). change_left m pages ch j (run_said x)) is-on)
 
-enum-known-run : tie.Need-enum-known-run
+enum-known-run : tie.Need-enum_known-run
 enum-known-run c = search rules
 
-returns : tie.Need-returns
-returns c = let x = c.before.before.before.before.before.before.args in change_none (mem_of x.tags.now x.marks.now x.cells.now x.log.now) x.pages.now x.c x.j x.run c.match.keys2
+returns : tie.Need-returns-in_default
+returns c = let x = c.args in (change_none (mem_of x.tags.now x.marks.now x.cells.now x.log.now) x.pages.now x.c x.j x.run c.in_default.in_default-own.keys2, typed_wide x.c _ c.well_formed.1.1.1.1.1.0)
 
-mul-a : tie.Need-overflow-mul-a
+mul-a : tie.Need-overflow_mul-a
 mul-a c = search rules
 
-add-e : tie.Need-overflow-add-e
+add-e : tie.Need-overflow_add-e
 add-e c = search rules
 
-sub-step : tie.Need-overflow-sub-step
+sub-step : tie.Need-slice_bounds-step-count
 sub-step c = order c.before.before.before.before.before.before
 
-part-step-start : tie.Need-slice-bounds-step-start
+part-step-start : tie.Need-slice_bounds-step-start
 part-step-start c = omega (arith, order c.before.before.before.before.before.before, reach c.before.before.before.before.before.before)
 
-part-step-end : tie.Need-slice-bounds-step-end
+part-step-end : tie.Need-slice_bounds-step-end
 part-step-end c = omega (arith, reach c.before.before.before.before.before.before)
 
-step-requires : tie.Need-step-requires
+step-requires : tie.Need-step-s-requires
 step-requires c κs = search rules
 
-enum-known-t : tie.Need-enum-known-t
+enum-known-t : tie.Need-enum_known-t
 enum-known-t c = search rules
 
-same_length : tie.Need-same-length
+same_length : tie.Need-shape_of-tags-in-Refused
 same_length c = search rules
 
-same-length-2 : tie.Need-same-length-2
+same-length-2 : tie.Need-shape_of-marks-in-Refused
 same-length-2 c = search rules
 
-same-length-3 : tie.Need-same-length-3
+same-length-3 : tie.Need-shape_of-cells-in-Refused
 same-length-3 c = search rules
 
-same-length-4 : tie.Need-same-length-4
+same-length-4 : tie.Need-shape_of-log-in-Refused
 same-length-4 c = search rules
 
-returns-2 : tie.Need-returns-2
-returns-2 c = let u = c.before.before.before.before.before.before.before.before.before.before.before in let q = u.before.before.before.before.before.before.before.before in let r = u.step in (change-refused (st q) (m q) (pages q) (page q) (ch q) (j q) (same q) r.result.taken r.ensures.taken c.before.t.given.0.0 c.before.t.given.1 ∙ as-going q, change-mem (st q) (m q) (pages q) (page q) (ch q) (j q) (same q) (mem_of r.new.0 r.new.1.0 r.new.1.1.0 r.new.1.1.1.0) r.ensures.memory ∙ as-left q)
+returns-2 : tie.Need-returns-in-Refused
+returns-2 c = let u = c.before.before.before.before.before.before.before.before.before in let q = u.before.before.before.before.before.before.before.before in let r = u.step-s in ((change-refused (st q) (m q) (pages q) (page q) (ch q) (j q) (same q) r.result.taken r.ensures.taken c.in-Refused.why c.in-Refused.is ∙ as-going q, change-mem (st q) (m q) (pages q) (page q) (ch q) (j q) (same q) (mem_of r.new.tags r.new.marks r.new.cells r.new.log) r.ensures.memory ∙ as-left q), typed_wide c.args.c _ c.well_formed.1.1.1.1.1.0)
 
-enum_told : tie.Need-enum-told
+enum_told : tie.Need-enum_told-1
 enum_told c = search rules
 
-same-length-5 : tie.Need-same-length-5
+same-length-5 : tie.Need-shape_of-tags
 same-length-5 c = search rules
 
-same-length-6 : tie.Need-same-length-6
+same-length-6 : tie.Need-shape_of-marks
 same-length-6 c = search rules
 
-same-length-7 : tie.Need-same-length-7
+same-length-7 : tie.Need-shape_of-cells
 same-length-7 c = search rules
 
-same-length-8 : tie.Need-same-length-8
+same-length-8 : tie.Need-shape_of-log
 same-length-8 c = search rules
 
-returns-3 : tie.Need-returns-3
-returns-3 c = let u = c.before.before.before.before.before.before.before.before.before.before.before in let q = u.before.before.before.before.before.before.before.before in let r = u.step in (change-given (st q) (m q) (pages q) (page q) (ch q) (j q) (same q) r.result.taken r.ensures.taken r.result.state r.ensures.state c.before.before.match2.keys2 ∙ as-going q, change-mem (st q) (m q) (pages q) (page q) (ch q) (j q) (same q) (mem_of r.new.0 r.new.1.0 r.new.1.1.0 r.new.1.1.1.0) r.ensures.memory ∙ as-left q)
+returns-3 : tie.Need-returns
+returns-3 c = let u = c.before.before.before.before.before.before.before.before.before.before in let q = u.before.before.before.before.before.before.before.before in let r = u.step-s in ((change-given (st q) (m q) (pages q) (page q) (ch q) (j q) (same q) r.result.taken r.ensures.taken r.result.state r.ensures.state c.in_default-t.in_default-t-own.keys2 ∙ as-going q, change-mem (st q) (m q) (pages q) (page q) (ch q) (j q) (same q) (mem_of r.new.tags r.new.marks r.new.cells r.new.log) r.ensures.memory ∙ as-left q), typed_wide c.args.c _ c.well_formed.1.1.1.1.1.0)
 
-pub change-at-spec : {M : Type 1} → statement M
-change-at-spec =
+pub change_at_spec : {M : Type 1} → statement M
+change_at_spec =
     tie.close
     (tie.spec
     enum-known-run

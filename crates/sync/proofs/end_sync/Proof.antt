@@ -19,44 +19,44 @@ told r g l e s w x h = (
   (h.1.0 ∙ sym (ap (λ (v : Run). end_writer (run_said v) l) e), h.1.1 ∙ sym (ap (λ (v : Run). end_log (run_said v) l) e)),
 )
 
-enum-known-run : tie.Need-enum-known-run
+enum-known-run : tie.Need-enum_known-run
 enum-known-run c = search rules
 
-enum-known-run-2 : tie.Need-enum-known-run-2
+enum-known-run-2 : tie.Need-enum_known-run-in-RefusedAt-1
 enum-known-run-2 c = search rules
 
-enum-known-run-3 : tie.Need-enum-known-run-3
+enum-known-run-3 : tie.Need-enum_known-run-in-On-1
 enum-known-run-3 c = search rules
 
-finish-requires : tie.Need-finish-requires
+finish-requires : tie.Need-finish-finished-requires
 finish-requires c κs = search rules
 
-enum-known-answer : tie.Need-enum-known-answer
+enum-known-answer : tie.Need-enum_known-answer
 enum-known-answer c = search rules
 
-enum-known-answer-2 : tie.Need-enum-known-answer-2
+enum-known-answer-2 : tie.Need-enum_known-answer-in-Refused-answer
 enum-known-answer-2 c = search rules
 
-returns : tie.Need-returns
-returns c = let a = c.before.before.before.before.args in told a.run _ a.log.now c.before.run.given.1 _ _ _ (refl, (refl, refl))
+returns : tie.Need-returns-in-Refused
+returns c = let a = c.args in told a.run _ a.log.now c.in-Refused.is _ _ _ (refl, (refl, refl))
 
-returns-2 : tie.Need-returns-2
-returns-2 c = let a = c.before.before.before.before.args in told a.run _ a.log.now c.before.run2.given.1 _ _ _ (refl, (refl, refl))
+returns-2 : tie.Need-returns-in-RefusedAt
+returns-2 c = let a = c.args in told a.run _ a.log.now c.in-RefusedAt.is _ _ _ (refl, (refl, refl))
 
-same_length : tie.Need-same-length
+same_length : tie.Need-shape_of-log-in-Is
 same_length c = search rules
 
-returns-3 : tie.Need-returns-3
-returns-3 c = let a = c.before.before.before.before.before.before.before.before.before.before.before.args in let x = c.before.before.before.before.before.before.before.before.run3.given in let f = c.before.before.before.before.before.finish in told a.run _ a.log.now x.1 _ _ _ (ap (λ (y : Answer ℕ). said_finish y x.0.0.occupied) (sym (ap number_said c.before.answer.given.1) ∙ f.ensures.0), (f.ensures.1.0, f.ensures.1.1))
+returns-3 : tie.Need-returns-in-Is
+returns-3 c = let a = c.args in let x = c.in-On in let f = c.finish-finished in told a.run _ a.log.now x.is _ _ _ (ap (λ (y : Answer ℕ). said_finish y x.state.occupied) (sym (ap number_said c.in-Is.is) ∙ f.ensures.0), (f.ensures.1.0, f.ensures.1.1))
 
-same-length-2 : tie.Need-same-length-2
+same-length-2 : tie.Need-shape_of-log-in-Refused-answer
 same-length-2 c = search rules
 
-returns-4 : tie.Need-returns-4
-returns-4 c = let a = c.before.before.before.before.before.before.before.before.before.before.before.args in let x = c.before.before.before.before.before.before.before.before.run3.given in let f = c.before.before.before.before.before.finish in told a.run _ a.log.now x.1 _ _ _ (ap (λ (y : Answer ℕ). said_finish y x.0.0.occupied) (sym (ap number_said c.before.answer2.given.1) ∙ f.ensures.0), (f.ensures.1.0, f.ensures.1.1))
+returns-4 : tie.Need-returns-in-Refused-answer
+returns-4 c = let a = c.args in let x = c.in-On in let f = c.finish-finished in told a.run _ a.log.now x.is _ _ _ (ap (λ (y : Answer ℕ). said_finish y x.state.occupied) (sym (ap number_said c.in-Refused-answer.is) ∙ f.ensures.0), (f.ensures.1.0, f.ensures.1.1))
 
-pub end-sync-spec : {M : Type 1} → statement M
-end-sync-spec =
+pub end_sync_spec : {M : Type 1} → statement M
+end_sync_spec =
     tie.close
     (tie.spec
     enum-known-run

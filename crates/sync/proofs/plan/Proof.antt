@@ -13,58 +13,58 @@ use Rattle.sync.proofs.plan.Statement.{statement}
 use Rattle.sync.proofs.plan.Tie as tie
 
 -- past bit 126 the plan goes by what the place names
-by_name : (c : tie.After-name-of) (a : Answer Named) → a ≡ name_said c.name_of.result
-    → let args = c.before.before.before.before.before.before.before.before.before.args in
-    does_of args.n args.tags.now args.cells.now args.c ≡ by_named c.before.before.before.cleared.result args.n args.tags.now args.c.hash a
+by_name : (c : tie.After-name_of-name) (a : Answer Named) → a ≡ name_said c.name_of-name.result
+    → let args = c.args in
+    does_of args.n args.tags.now args.cells.now args.c ≡ by_named c.cleared-clearing.result args.n args.tags.now args.c.hash a
 by_name c a e =
     let placed = c.before in
     let asked = placed.before.before.before.before in
-    let args = asked.before.before.before.before.args in
-    plan-by args.n args.tags.now args.cells.now args.c placed.before.before.cleared.result a
-    (spare_fails args.c.diff.words asked.changed.result asked.changed.ensures placed.before.before.before.match.keys2)
-    placed.before.before.cleared.ensures (e ∙ c.name_of.ensures ∙ ap (λ (w : Where). named_by w args.cells.now) placed.where-of.ensures)
+    let args = asked.args in
+    plan-by args.n args.tags.now args.cells.now args.c placed.cleared-clearing.result a
+    (spare_fails args.c.diff.words asked.changed-spare.result asked.changed-spare.ensures placed.in_default.in_default-own.keys2)
+    placed.cleared-clearing.ensures (e ∙ c.name_of-name.ensures ∙ ap (λ (w : Where). named_by w args.cells.now) placed.where_of.ensures)
 
-changed-requires : tie.Need-changed-requires
+changed-requires : tie.Need-changed-spare-requires
 changed-requires c κs = search rules
 
-enum_told : tie.Need-enum-told
+enum_told : tie.Need-enum_told-1
 enum_told c = search rules
 
-returns : tie.Need-returns
-returns c = let asked = c.before.before in let args = asked.before.before.before.before.args in sym (plan-spare args.n args.tags.now args.cells.now args.c (spare-holds args.c.diff.words asked.changed.result asked.changed.ensures c.enum_told.given.1))
+returns : tie.Need-returns-in-Holds
+returns c = let asked = c.before in let args = asked.args in sym (plan-spare args.n args.tags.now args.cells.now args.c (spare-holds args.c.diff.words asked.changed-spare.result asked.changed-spare.ensures c.in-Holds.is))
 
-cleared-requires : tie.Need-cleared-requires
+cleared-requires : tie.Need-cleared-clearing-requires
 cleared-requires c κs = search rules
 
-where-of-requires : tie.Need-where-of-requires
+where-of-requires : tie.Need-where_of-requires
 where-of-requires c κs = search rules
 
-name-of-requires : tie.Need-name-of-requires
+name-of-requires : tie.Need-name_of-name-requires
 name-of-requires c κs = search rules
 
-enum-known-name : tie.Need-enum-known-name
+enum-known-name : tie.Need-enum_known-name
 enum-known-name c = search rules
 
-returns-2 : tie.Need-returns-2
-returns-2 c = sym (by_name c.before.before.before (refused (number_of c.before.name.given.0.0)) (sym (ap name_said c.before.name.given.1)))
+returns-2 : tie.Need-returns-in-Refused
+returns-2 c = sym (by_name c.before (refused (number_of c.in-Refused.why)) (sym (ap name_said c.in-Refused.is)))
 
-enum-known-name-2 : tie.Need-enum-known-name-2
+enum-known-name-2 : tie.Need-enum_known-name-in-Bucket-name-2
 enum-known-name-2 c = search rules
 
-plan-named-requires : tie.Need-plan-named-requires
+plan-named-requires : tie.Need-plan_named-requires
 plan-named-requires c κs = search rules
 
-returns-3 : tie.Need-returns-3
-returns-3 c = let told = c.before in c.plan-named.ensures ∙ sym (by_name told.before.before.before.before (given (bucket told.before.name2.given.0.0)) (sym (ap name_said told.before.name2.given.1)))
+returns-3 : tie.Need-returns-in-Bucket
+returns-3 c = let told = c.before in c.plan_named.ensures ∙ sym (by_name told.before.before (given (bucket told.in-Bucket.b)) (sym (ap name_said told.in-Bucket.is)))
 
-returns-4 : tie.Need-returns-4
-returns-4 c = let at_name = c.before.before.before in sym (by_name at_name (given none) (sym (no_name at_name.name_of.result c.before.before.match2.keys2 c.before.match3.keys2)) ∙ ap (λ (b : Bool). cond b (refused 14) (given allocates)) c.if1.true)
+returns-4 : tie.Need-returns-then-clearing
+returns-4 c = let at_name = c.before.before.before in sym (by_name at_name (given none) (sym (no_name at_name.name_of-name.result c.in_default-name.in_default-name-own.keys2 c.in_default-name-2.in_default-name-2-own.keys2)) ∙ ap (λ (b : Bool). cond b (refused 14) (given allocates)) c.if-clearing.true)
 
-returns-5 : tie.Need-returns-5
-returns-5 c = let at_name = c.before.before.before in sym (by_name at_name (given none) (sym (no_name at_name.name_of.result c.before.before.match2.keys2 c.before.match3.keys2)) ∙ ap (λ (b : Bool). cond b (refused 14) (given allocates)) c.if1.false)
+returns-5 : tie.Need-returns
+returns-5 c = let at_name = c.before.before.before in sym (by_name at_name (given none) (sym (no_name at_name.name_of-name.result c.in_default-name.in_default-name-own.keys2 c.in_default-name-2.in_default-name-2-own.keys2)) ∙ ap (λ (b : Bool). cond b (refused 14) (given allocates)) c.if-clearing.false)
 
-pub plan-spec : {M : Type 1} → statement M
-plan-spec =
+pub plan_spec : {M : Type 1} → statement M
+plan_spec =
     tie.close
     (tie.spec
     changed-requires
