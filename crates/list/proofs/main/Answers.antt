@@ -1,5 +1,4 @@
 -- The lines fit the room that they are put into. Assumes nothing.
-use Rattle.std.proofs.Common.{length}
 use mathlib.Core.Path.{sym, ap, ◌∙◌}
 use lib.ListN.{take}
 use lib.Seq.{length-take-le}
