@@ -47,7 +47,8 @@ pub check_buckets-checked-requires : goal.check_buckets-checked-requires
 check_buckets-checked-requires c =
     let a = c.args in
     let fits = table_fits (image_fits a.n (length a.image.now)) (sym c.in_default.ensures) in
-    (fits, c.if-hashes-n.false, (first-told a.image.now a.n fits c.in-Is-found.first c.in-Is-found.ensures).within)
+    let within = (first-told a.image.now a.n fits c.in-Is-found.first c.in-Is-found.ensures).within in
+    (fits, c.if-hashes-n.false, omega (arith, within))
 
 pub returns-in-Refused-checked : goal.returns-in-Refused-checked
 returns-in-Refused-checked c =
