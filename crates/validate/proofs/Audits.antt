@@ -1,8 +1,7 @@
 -- The audit bucket by bucket: up to the first doubled label it is the audit of tags and paths, and there it is 21. Assumes nothing.
 use mathlib.Core.Path.{◌≡◌, refl, sym, ap, ap₂, ◌∙◌}
 use mathlib.Core.Bool.{Bool, true, false, cond, ◌&&◌}
-use mathlib.Core.List.{List, [], ◌∷◌}
-use mathlib.Core.Logic.{⊎_elim}
+use mathlib.Core.List.{List}
 use Prim.Native.Nat.{ℕ, zero, suc, ◌+◌, ◌-◌, ◌≤◌, ◌<◌}
 use native.Mathlib.Numerals.{add-one}
 use native.Mathlib.Omega.{arith}
@@ -10,13 +9,10 @@ use lib.Dec.{eqb}
 use lib.ListN.{length, get_or}
 use lib.Seq.{length-take-le, get_or-take}
 use borrow.Author.Tests.{eq-eqb, ne_eqb}
-use types.Run.{OneOf}
-use denote.Enum.Declared.{tag_of}
 use Rattle.answers.specs.Answers.{Answer, given, refused, truth_said, and_then}
 use Rattle.answers.specs.Refusals.{number_of}
 use Rattle.answers.specs.declared.Truth.{Truth}
 use Rattle.answers.specs.declared.Truth.TheVariants as T
-use Rattle.answers.specs.contracts.Truth as TruthT
 use Rattle.answers.proofs.Laws.{given-one, given-refused}
 use Rattle.ht_file.specs.Places.{count_allowed, tags_length, image_length, tags_fit, image_fits, tags_of, if_tags, if_table}
 use Rattle.ht_file.proofs.Laws.{both_hold, image_fits_facts, table_unfit}
@@ -122,7 +118,7 @@ module _ (n : ℕ) (img : List ℕ) (fits : image_fits n (length img) ≡ true) 
   tags-counted = count_agree full (tags_of n img) img n (λ i l. get_or-take (tags_length n) img i 0 (omega arith))
 
 -- what the question after the padding told
-pub padding_told : (r : Truth) (t : Bool) → truth_said r ≡ given t → OneOf (1 ∷ 2 ∷ []) (tag_of TruthT.the_type r) → t ≡ false
-padding_told T.Holds t e o = absurd (⊎_elim (λ (y : 0 ≡ 1). omega arith) (λ (y : 0 ≡ 2). omega arith) o)
+pub padding_told : (r : Truth) (t : Bool) → truth_said r ≡ given t → (r ≡ T.Holds → ⊥) → t ≡ false
+padding_told T.Holds t e o = absurd (o refl)
 padding_told T.Fails t e o = sym (given-one false t e)
 padding_told (T.Refused r) t e o = absurd (given-refused t (number_of r) (sym e))
