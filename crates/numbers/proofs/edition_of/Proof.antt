@@ -6,11 +6,11 @@ use Rattle.wal.specs.declared.Edition.TheVariants.{One, Two}
 use Rattle.numbers.proofs.edition_of.Statement.{statement}
 use Rattle.numbers.proofs.edition_of.Tie as tie
 
-returns : tie.Need-returns
-returns c = sym (ap (λ (t : Bool). cond t Two One) (eq-eqb _ _ c.if1.true))
+returns : tie.Need-returns-then-number-eq2
+returns c = sym (ap (λ (t : Bool). cond t Two One) (eq-eqb _ _ c.if-number-eq2.true))
 
-returns-2 : tie.Need-returns-2
-returns-2 c = sym (ap (λ (t : Bool). cond t Two One) (ne_eqb _ _ c.if1.false))
+returns-2 : tie.Need-returns
+returns-2 c = sym (ap (λ (t : Bool). cond t Two One) (ne_eqb _ _ c.if-number-eq2.false))
 
-pub edition-of-spec : {M : Type 1} → statement M
-edition-of-spec = tie.close (tie.spec returns returns-2)
+pub edition_of_spec : {M : Type 1} → statement M
+edition_of_spec = tie.close (tie.spec returns returns-2)

@@ -7,21 +7,21 @@ use borrow.Author.Rules.{rules}
 use Rattle.numbers.proofs.refusal_of.Statement.{statement}
 use Rattle.numbers.proofs.refusal_of.Tie as tie
 
-enum_told : tie.Need-enum-told
+enum_told : tie.Need-enum_told-1
 enum_told c = search rules
 
-enum-known-o : tie.Need-enum-known-o
+enum-known-o : tie.Need-enum_known-o
 enum-known-o c = search rules
 
-refusal-number-requires : tie.Need-refusal-number-requires
+refusal-number-requires : tie.Need-refusal_number-requires
 refusal-number-requires c κs = search rules
 
-returns : tie.Need-returns
-returns c = sym (ap (λ (x : Outcome). refusal_of (outcome_said x)) c.enum_told.given.1)
+returns : tie.Need-returns-in-Done
+returns c = sym (ap (λ (x : Outcome). refusal_of (outcome_said x)) c.in-Done.is)
 
-returns-2 : tie.Need-returns-2
-returns-2 c = c.refusal-number.ensures ∙ sym (ap (λ (x : Outcome). refusal_of (outcome_said x)) c.before.before.o.given.1)
+returns-2 : tie.Need-returns-in-Refused
+returns-2 c = c.refusal_number.ensures ∙ sym (ap (λ (x : Outcome). refusal_of (outcome_said x)) c.in-Refused.is)
 
-pub refusal-of-spec : {M : Type 1} → statement M
-refusal-of-spec =
+pub refusal_of_spec : {M : Type 1} → statement M
+refusal_of_spec =
     tie.close (tie.spec enum_told enum-known-o refusal-number-requires returns returns-2)

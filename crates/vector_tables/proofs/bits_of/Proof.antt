@@ -13,14 +13,14 @@ ordered nan y e = absurd (subst T (sym e) tt)
 ordered (inf s) y e = tt
 ordered (fin s m d) y e = tt
 
-float-to-bits-result : tie.Need-float-to-bits-result
-float-to-bits-result c = ordered _ _ c.if1.true
+float-to-bits-result : tie.Need-float_to_bits-result
+float-to-bits-result c = ordered _ _ c.if-rate.true
 
-returns : tie.Need-returns
+returns : tie.Need-returns-then-rate
 returns c = search rules
 
-returns-2 : tie.Need-returns-2
+returns-2 : tie.Need-returns
 returns-2 c = search rules
 
-pub bits-of-spec : {M : Type 1} → statement M
-bits-of-spec = tie.close (tie.spec float-to-bits-result returns returns-2)
+pub bits_of_spec : {M : Type 1} → statement M
+bits_of_spec = tie.close (tie.spec float-to-bits-result returns returns-2)

@@ -6,13 +6,13 @@ use borrow.Author.Rules.{rules}
 use Rattle.vector_tables.proofs.lent.Statement.{statement}
 use Rattle.vector_tables.proofs.lent.Tie as tie
 
-slice-aggregate-result : tie.Need-slice-aggregate-result
+slice-aggregate-result : tie.Need-slice_bounds-result-end
 slice-aggregate-result c = sym (length-take-le _ _ (omega arith))
 
-returns : tie.Need-returns
+returns : tie.Need-returns-then-n-s
 returns c = search rules
 
-returns-2 : tie.Need-returns-2
+returns-2 : tie.Need-returns
 returns-2 c = search rules
 
 pub lent_spec : {M : Type 1} → statement M
