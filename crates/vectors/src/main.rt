@@ -405,8 +405,15 @@ fn replayed(text: &[u8]) -> Count {
     lines(text, &mut a, &mut b, &mut c)
 }
 
+// Room for the list.
+fn room() -> [u8; 524288]
+    ensures { 524288 ≡ length result }
+{
+    [0; 524288]
+}
+
 fn main() {
-    let mut text = [0u8; 524288];
+    let mut text = room();
     let len = io::read_full(0, &mut text);
     let count = replayed(part(&text, len));
     io::print_decimal(1, count.answers);

@@ -5,14 +5,14 @@ use borrow.Author.Rules.{rules}
 use Rattle.bitbox.proofs.bitbox_audit.Statement.{statement}
 use Rattle.bitbox.proofs.bitbox_audit.Tie as tie
 
-validate-hashtable-requires : tie.Need-validate-hashtable-requires
+validate-hashtable-requires : tie.Need-validate_hashtable-requires
 validate-hashtable-requires c κs = search rules
 
-of-audited-requires : tie.Need-of-audited-requires
+of-audited-requires : tie.Need-of_audited-requires
 of-audited-requires c κs = search rules
 
 returns : tie.Need-returns
-returns c = c.of-audited.ensures ∙ ap audit_words c.before.validate-hashtable.ensures
+returns c = c.of_audited.ensures ∙ ap audit_words c.validate_hashtable.ensures
 
-pub bitbox-audit-spec : {M : Type 1} → statement M
-bitbox-audit-spec = tie.close (tie.spec validate-hashtable-requires of-audited-requires returns)
+pub bitbox_audit_spec : {M : Type 1} → statement M
+bitbox_audit_spec = tie.close (tie.spec validate-hashtable-requires of-audited-requires returns)

@@ -14,14 +14,14 @@ diff-requires c κs = search rules
 changed-requires : tie.Need-changed-requires
 changed-requires c κs = search rules
 
-of-truth-requires : tie.Need-of-truth-requires
+of-truth-requires : tie.Need-of_truth-requires
 of-truth-requires c κs = search rules
 
 returns : tie.Need-returns
 returns c =
-    c.of-truth.ensures
-    ∙ ap truth_words (c.before.changed.ensures ∙ ap (λ (ws : List ℕ). ask_answer ws c.before.before.before.args.slot) c.before.before.diff.ensures)
+    c.of_truth.ensures
+    ∙ ap truth_words (c.changed.ensures ∙ ap (λ (ws : List ℕ). ask_answer ws c.args.slot) c.diff.ensures)
 
-pub bitbox-diff-ask-spec : {M : Type 1} → statement M
-bitbox-diff-ask-spec =
+pub bitbox_diff_ask_spec : {M : Type 1} → statement M
+bitbox_diff_ask_spec =
     tie.close (tie.spec diff-requires changed-requires of-truth-requires returns)

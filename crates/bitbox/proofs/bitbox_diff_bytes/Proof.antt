@@ -8,11 +8,11 @@ use Rattle.bitbox.proofs.bitbox_diff_bytes.Tie as tie
 diff-requires : tie.Need-diff-requires
 diff-requires c κs = search rules
 
-as-bytes-requires : tie.Need-as-bytes-requires
+as-bytes-requires : tie.Need-as_bytes-requires
 as-bytes-requires c κs = search rules
 
 returns : tie.Need-returns
-returns c = c.as_bytes.ensures ∙ ap bytes_of_words c.before.diff.ensures
+returns c = c.as_bytes.ensures ∙ ap bytes_of_words c.diff.ensures
 
-pub bitbox-diff-bytes-spec : {M : Type 1} → statement M
-bitbox-diff-bytes-spec = tie.close (tie.spec diff-requires as-bytes-requires returns)
+pub bitbox_diff_bytes_spec : {M : Type 1} → statement M
+bitbox_diff_bytes_spec = tie.close (tie.spec diff-requires as-bytes-requires returns)

@@ -14,7 +14,7 @@ cleared-requires : tie.Need-cleared-requires
 cleared-requires c κs = search rules
 
 returns : tie.Need-returns
-returns c = c.cleared.ensures ∙ ap (λ (ws : List ℕ). marked ws 127) c.before.diff.ensures
+returns c = c.cleared.ensures ∙ ap (λ (ws : List ℕ). marked ws 127) c.diff.ensures
 
-pub bitbox-diff-cleared-spec : {M : Type 1} → statement M
-bitbox-diff-cleared-spec = tie.close (tie.spec diff-requires cleared-requires returns)
+pub bitbox_diff_cleared_spec : {M : Type 1} → statement M
+bitbox_diff_cleared_spec = tie.close (tie.spec diff-requires cleared-requires returns)

@@ -12,7 +12,7 @@ count-requires : tie.Need-count-requires
 count-requires c κs = search rules
 
 returns : tie.Need-returns
-returns c = c.count.ensures ∙ ap count_of c.before.diff.ensures
+returns c = c.count.ensures ∙ ap count_of c.diff.ensures
 
-pub bitbox-diff-count-spec : {M : Type 1} → statement M
-bitbox-diff-count-spec = tie.close (tie.spec diff-requires count-requires returns)
+pub bitbox_diff_count_spec : {M : Type 1} → statement M
+bitbox_diff_count_spec = tie.close (tie.spec diff-requires count-requires returns)

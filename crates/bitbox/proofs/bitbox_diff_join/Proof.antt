@@ -20,8 +20,8 @@ join-requires c κs = search rules
 returns : tie.Need-returns
 returns c =
     c.join.ensures
-    ∙ ap (λ (ws : List ℕ). joined ws c.before.diff2.result.words) c.before.before.diff.ensures
-    ∙ ap (joined (pair c.before.before.before.args.lo c.before.before.before.args.hi)) c.before.diff2.ensures
+    ∙ ap (λ (ws : List ℕ). joined ws c.diff-2.result.words) c.diff.ensures
+    ∙ ap (joined (pair c.args.lo c.args.hi)) c.diff-2.ensures
 
-pub bitbox-diff-join-spec : {M : Type 1} → statement M
-bitbox-diff-join-spec = tie.close (tie.spec diff-requires diff-requires-2 join-requires returns)
+pub bitbox_diff_join_spec : {M : Type 1} → statement M
+bitbox_diff_join_spec = tie.close (tie.spec diff-requires diff-requires-2 join-requires returns)

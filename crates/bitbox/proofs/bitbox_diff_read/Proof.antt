@@ -5,14 +5,14 @@ use borrow.Author.Rules.{rules}
 use Rattle.bitbox.proofs.bitbox_diff_read.Statement.{statement}
 use Rattle.bitbox.proofs.bitbox_diff_read.Tie as tie
 
-from-bytes-requires : tie.Need-from-bytes-requires
+from-bytes-requires : tie.Need-from_bytes-read-requires
 from-bytes-requires c κs = search rules
 
-refusal-of-requires : tie.Need-refusal-of-requires
+refusal-of-requires : tie.Need-refusal_of-requires
 refusal-of-requires c κs = search rules
 
 returns : tie.Need-returns
-returns c = (c.refusal-of.ensures ∙ ap refusal_of c.before.before.from_bytes.ensures.0, c.before.before.from_bytes.ensures.1)
+returns c = (c.refusal_of.ensures ∙ ap refusal_of c.from_bytes-read.ensures.0, c.from_bytes-read.ensures.1)
 
-pub bitbox-diff-read-spec : {M : Type 1} → statement M
-bitbox-diff-read-spec = tie.close (tie.spec from-bytes-requires refusal-of-requires returns)
+pub bitbox_diff_read_spec : {M : Type 1} → statement M
+bitbox_diff_read_spec = tie.close (tie.spec from-bytes-requires refusal-of-requires returns)

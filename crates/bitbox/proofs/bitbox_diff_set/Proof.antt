@@ -11,20 +11,20 @@ use Rattle.bitbox.proofs.bitbox_diff_set.Tie as tie
 diff-requires : tie.Need-diff-requires
 diff-requires c κs = search rules
 
-set-changed-requires : tie.Need-set-changed-requires
+set-changed-requires : tie.Need-set_changed-set-requires
 set-changed-requires c κs = search rules
 
-refusal-of-requires : tie.Need-refusal-of-requires
+refusal-of-requires : tie.Need-refusal_of-requires
 refusal-of-requires c κs = search rules
 
 returns : tie.Need-returns
 returns c = (
-  c.refusal-of.ensures
-      ∙ ap refusal_of c.before.before.set-changed.ensures.0,
-  c.before.before.set-changed.ensures.1
-      ∙ ap (λ (ws : List ℕ). set_words ws c.before.before.before.before.args.slot) c.before.before.before.diff.ensures,
+  c.refusal_of.ensures
+      ∙ ap refusal_of c.set_changed-set.ensures.0,
+  c.set_changed-set.ensures.1
+      ∙ ap (λ (ws : List ℕ). set_words ws c.args.slot) c.diff.ensures,
 )
 
-pub bitbox-diff-set-spec : {M : Type 1} → statement M
-bitbox-diff-set-spec =
+pub bitbox_diff_set_spec : {M : Type 1} → statement M
+bitbox_diff_set_spec =
     tie.close (tie.spec diff-requires set-changed-requires refusal-of-requires returns)

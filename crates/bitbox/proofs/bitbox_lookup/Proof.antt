@@ -8,11 +8,11 @@ use Rattle.bitbox.proofs.bitbox_lookup.Tie as tie
 lookup-requires : tie.Need-lookup-requires
 lookup-requires c κs = search rules
 
-of-found-requires : tie.Need-of-found-requires
+of-found-requires : tie.Need-of_found-requires
 of-found-requires c κs = search rules
 
 returns : tie.Need-returns
-returns c = c.of-found.ensures ∙ ap lookup_words c.before.lookup.ensures
+returns c = c.of_found.ensures ∙ ap lookup_words c.lookup.ensures
 
-pub bitbox-lookup-spec : {M : Type 1} → statement M
-bitbox-lookup-spec = tie.close (tie.spec lookup-requires of-found-requires returns)
+pub bitbox_lookup_spec : {M : Type 1} → statement M
+bitbox_lookup_spec = tie.close (tie.spec lookup-requires of-found-requires returns)

@@ -5,15 +5,15 @@ use borrow.Author.Rules.{rules}
 use Rattle.bitbox.proofs.bitbox_padding_is_empty.Statement.{statement}
 use Rattle.bitbox.proofs.bitbox_padding_is_empty.Tie as tie
 
-padding-is-empty-requires : tie.Need-padding-is-empty-requires
+padding-is-empty-requires : tie.Need-padding_is_empty-requires
 padding-is-empty-requires c κs = search rules
 
-of-truth-requires : tie.Need-of-truth-requires
+of-truth-requires : tie.Need-of_truth-requires
 of-truth-requires c κs = search rules
 
 returns : tie.Need-returns
-returns c = c.of-truth.ensures ∙ ap truth_words c.before.padding-is-empty.ensures
+returns c = c.of_truth.ensures ∙ ap truth_words c.padding_is_empty.ensures
 
-pub bitbox-padding-is-empty-spec : {M : Type 1} → statement M
-bitbox-padding-is-empty-spec =
+pub bitbox_padding_is_empty_spec : {M : Type 1} → statement M
+bitbox_padding_is_empty_spec =
     tie.close (tie.spec padding-is-empty-requires of-truth-requires returns)

@@ -8,11 +8,11 @@ use Rattle.bitbox.proofs.bitbox_pending.Tie as tie
 pending-requires : tie.Need-pending-requires
 pending-requires c κs = search rules
 
-of-decision-requires : tie.Need-of-decision-requires
+of-decision-requires : tie.Need-of_decision-requires
 of-decision-requires c κs = search rules
 
 returns : tie.Need-returns
-returns c = c.of-decision.ensures ∙ ap left_words c.before.pending.ensures
+returns c = c.of_decision.ensures ∙ ap left_words c.pending.ensures
 
-pub bitbox-pending-spec : {M : Type 1} → statement M
-bitbox-pending-spec = tie.close (tie.spec pending-requires of-decision-requires returns)
+pub bitbox_pending_spec : {M : Type 1} → statement M
+bitbox_pending_spec = tie.close (tie.spec pending-requires of-decision-requires returns)

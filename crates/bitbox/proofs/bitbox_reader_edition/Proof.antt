@@ -5,15 +5,15 @@ use borrow.Author.Rules.{rules}
 use Rattle.bitbox.proofs.bitbox_reader_edition.Statement.{statement}
 use Rattle.bitbox.proofs.bitbox_reader_edition.Tie as tie
 
-edition-of-requires : tie.Need-edition-of-requires
+edition-of-requires : tie.Need-edition_of-requires
 edition-of-requires c κs = search rules
 
-edition-number-requires : tie.Need-edition-number-requires
+edition-number-requires : tie.Need-edition_number-requires
 edition-number-requires c κs = search rules
 
 returns : tie.Need-returns
-returns c = c.edition-number.ensures ∙ ap edition_number c.before.edition-of.ensures
+returns c = c.edition_number.ensures ∙ ap edition_number c.edition_of.ensures
 
-pub bitbox-reader-edition-spec : {M : Type 1} → statement M
-bitbox-reader-edition-spec =
+pub bitbox_reader_edition_spec : {M : Type 1} → statement M
+bitbox_reader_edition_spec =
     tie.close (tie.spec edition-of-requires edition-number-requires returns)

@@ -23,61 +23,61 @@ use Rattle.bitbox.proofs.WordLaws.{worded_read}
 use Rattle.bitbox.proofs.bitbox_reader_next_tolerant.Statement.{statement}
 use Rattle.bitbox.proofs.bitbox_reader_next_tolerant.Tie as tie
 
-edition-of-requires : tie.Need-edition-of-requires
+edition-of-requires : tie.Need-edition_of-ed-requires
 edition-of-requires c κs = search rules
 
-head-at-tolerant-requires : tie.Need-head-at-tolerant-requires
+head-at-tolerant-requires : tie.Need-head_at_tolerant-head-requires
 head-at-tolerant-requires c κs = search rules
 
 -- what stands there, and what the head says of it
-module _ (c : tie.After-head-at-tolerant) where
+module _ (c : tie.After-head_at_tolerant-head) where
   abbrev log : List ℕ
-  log = c.before.before.before.args.log.now
+  log = c.args.log.now
 
   abbrev at : ℕ
-  at = c.before.before.before.args.at
+  at = c.args.at
 
   abbrev ed : Edition
-  ed = edition_of c.before.before.before.args.edition
+  ed = edition_of c.args.edition
 
-  said : head_said c.head-at-tolerant.result ≡ head_of (next_by Tolerant ed log at)
-  said = c.head-at-tolerant.ensures ∙ ap (λ (e : Edition). head_of (next_by Tolerant e log at)) c.before.edition-of.ensures
+  said : head_said c.head_at_tolerant-head.result ≡ head_of (next_by Tolerant ed log at)
+  said = c.head_at_tolerant-head.ensures ∙ ap (λ (e : Edition). head_of (next_by Tolerant e log at)) c.edition_of-ed.ensures
 
-  not_end : OneOf (0 ∷ 1 ∷ 3 ∷ []) (tag_of HeadT.the_type c.head-at-tolerant.result) → next_by Tolerant ed log at ≡ ended → ⊥
-  not_end o e = none (tag_of HeadT.the_type c.head-at-tolerant.result) (ap (tag_of HeadT.the_type) (head-one c.head-at-tolerant.result head.End (said ∙ ap head_of e))) o
+  not_end : OneOf (0 ∷ 1 ∷ 3 ∷ []) (tag_of HeadT.the_type c.head_at_tolerant-head.result) → next_by Tolerant ed log at ≡ ended → ⊥
+  not_end o e = none (tag_of HeadT.the_type c.head_at_tolerant-head.result) (ap (tag_of HeadT.the_type) (head-one c.head_at_tolerant-head.result head.End (said ∙ ap head_of e))) o
     where
       none : (t : ℕ) → t ≡ 2 → (t ≡ 0) ⊎ ((t ≡ 1) ⊎ (t ≡ 3)) → ⊥
       none t z = ⊎_elim (λ (x : t ≡ 0). omega arith) (⊎_elim (λ (x : t ≡ 1). omega arith) (λ (x : t ≡ 3). omega arith))
 
-enum_told : tie.Need-enum-told
+enum_told : tie.Need-enum_told-1
 enum_told c = search rules
 
-end-at-requires : tie.Need-end-at-requires
+end-at-requires : tie.Need-end_at-requires
 end-at-requires c κs = search rules
 
-of-entry-requires : tie.Need-of-entry-requires
+of-entry-requires : tie.Need-of_entry-requires
 of-entry-requires c κs = search rules
 
-returns : tie.Need-returns
+returns : tie.Need-returns-in-End
 returns c =
     let made = c.before in
     let told = made.before in
-    let seen = told.before.before in
-    let here : next_by Tolerant (ed seen) (log seen) (at seen) ≡ ended = head_end (next_by Tolerant (ed seen) (log seen) (at seen)) (sym (ap head_said told.enum_told.given.1) ∙ said seen) in
-    subst (λ (n : Next). Read n (at seen) c.of_entry.result) (sym here) (worded_read ended (at seen) made.end-at.result c.of_entry.result made.end-at.ensures c.of_entry.ensures)
+    let seen = told.before in
+    let here : next_by Tolerant (ed seen) (log seen) (at seen) ≡ ended = head_end (next_by Tolerant (ed seen) (log seen) (at seen)) (sym (ap head_said told.in-End.is) ∙ said seen) in
+    subst (λ (n : Next). Read n (at seen) c.of_entry.result) (sym here) (worded_read ended (at seen) made.end_at.result c.of_entry.result made.end_at.ensures c.of_entry.ensures)
 
-bitbox-reader-next-requires : tie.Need-bitbox-reader-next-requires
+bitbox-reader-next-requires : tie.Need-bitbox_reader_next-requires
 bitbox-reader-next-requires c κs = search rules
 
-returns-2 : tie.Need-returns-2
+returns-2 : tie.Need-returns
 returns-2 c =
     let other = c.before in
     let seen = other.before in
-    subst (λ (n : Next). Read n (at seen) c.bitbox-reader-next.result)
-    (⊎_elim (λ e. e) (λ d. absurd (not_end seen other.match.keys2 d.0)) (next-differs Zeros (ed seen) (log seen) (at seen))) c.bitbox-reader-next.ensures
+    subst (λ (n : Next). Read n (at seen) c.bitbox_reader_next.result)
+    (⊎_elim (λ e. e) (λ d. absurd (not_end seen other.in_default.in_default-own.keys2 d.0)) (next-differs Zeros (ed seen) (log seen) (at seen))) c.bitbox_reader_next.ensures
 
-pub bitbox-reader-next-tolerant-spec : {M : Type 1} → statement M
-bitbox-reader-next-tolerant-spec =
+pub bitbox_reader_next_tolerant_spec : {M : Type 1} → statement M
+bitbox_reader_next_tolerant_spec =
     tie.close
     (tie.spec
     edition-of-requires

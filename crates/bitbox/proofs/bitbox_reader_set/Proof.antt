@@ -8,11 +8,11 @@ use Rattle.bitbox.proofs.bitbox_reader_set.Tie as tie
 set-requires : tie.Need-set-requires
 set-requires c κs = search rules
 
-of-number-requires : tie.Need-of-number-requires
+of-number-requires : tie.Need-of_number-requires
 of-number-requires c κs = search rules
 
 returns : tie.Need-returns
-returns c = c.of_number.ensures ∙ ap number_words c.before.set.ensures
+returns c = c.of_number.ensures ∙ ap number_words c.set.ensures
 
-pub bitbox-reader-set-spec : {M : Type 1} → statement M
-bitbox-reader-set-spec = tie.close (tie.spec set-requires of-number-requires returns)
+pub bitbox_reader_set_spec : {M : Type 1} → statement M
+bitbox_reader_set_spec = tie.close (tie.spec set-requires of-number-requires returns)

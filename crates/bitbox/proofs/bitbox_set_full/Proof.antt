@@ -5,22 +5,22 @@ use borrow.Author.Rules.{rules}
 use Rattle.bitbox.proofs.bitbox_set_full.Statement.{statement}
 use Rattle.bitbox.proofs.bitbox_set_full.Tie as tie
 
-set-full-requires : tie.Need-set-full-requires
+set-full-requires : tie.Need-set_full-requires
 set-full-requires c κs = search rules
 
-of-outcome-requires : tie.Need-of-outcome-requires
+of-outcome-requires : tie.Need-of_outcome-requires
 of-outcome-requires c κs = search rules
 
-same_length : tie.Need-same-length
+same_length : tie.Need-shape_of-tags
 same_length c = search rules
 
 returns : tie.Need-returns
 returns c = (
-  c.of-outcome.ensures
-      ∙ ap outcome_words c.before.before.before.set_full.ensures.0,
-  c.before.before.before.set_full.ensures.1,
+  c.of_outcome.ensures
+      ∙ ap outcome_words c.set_full.ensures.0,
+  c.set_full.ensures.1,
 )
 
-pub bitbox-set-full-spec : {M : Type 1} → statement M
-bitbox-set-full-spec =
+pub bitbox_set_full_spec : {M : Type 1} → statement M
+bitbox_set_full_spec =
     tie.close (tie.spec set-full-requires of-outcome-requires same_length returns)

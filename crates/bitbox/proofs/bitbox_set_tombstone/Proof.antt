@@ -5,22 +5,22 @@ use borrow.Author.Rules.{rules}
 use Rattle.bitbox.proofs.bitbox_set_tombstone.Statement.{statement}
 use Rattle.bitbox.proofs.bitbox_set_tombstone.Tie as tie
 
-set-tombstone-requires : tie.Need-set-tombstone-requires
+set-tombstone-requires : tie.Need-set_tombstone-requires
 set-tombstone-requires c κs = search rules
 
-of-outcome-requires : tie.Need-of-outcome-requires
+of-outcome-requires : tie.Need-of_outcome-requires
 of-outcome-requires c κs = search rules
 
-same_length : tie.Need-same-length
+same_length : tie.Need-shape_of-tags
 same_length c = search rules
 
 returns : tie.Need-returns
 returns c = (
-  c.of-outcome.ensures
-      ∙ ap outcome_words c.before.before.before.set-tombstone.ensures.0,
-  c.before.before.before.set-tombstone.ensures.1,
+  c.of_outcome.ensures
+      ∙ ap outcome_words c.set_tombstone.ensures.0,
+  c.set_tombstone.ensures.1,
 )
 
-pub bitbox-set-tombstone-spec : {M : Type 1} → statement M
-bitbox-set-tombstone-spec =
+pub bitbox_set_tombstone_spec : {M : Type 1} → statement M
+bitbox_set_tombstone_spec =
     tie.close (tie.spec set-tombstone-requires of-outcome-requires same_length returns)

@@ -5,14 +5,14 @@ use borrow.Author.Rules.{rules}
 use Rattle.bitbox.proofs.bitbox_write_marker.Statement.{statement}
 use Rattle.bitbox.proofs.bitbox_write_marker.Tie as tie
 
-write-marker-requires : tie.Need-write-marker-requires
+write-marker-requires : tie.Need-write_marker-m-requires
 write-marker-requires c κs = search rules
 
-refusal-of-requires : tie.Need-refusal-of-requires
+refusal-of-requires : tie.Need-refusal_of-requires
 refusal-of-requires c κs = search rules
 
 returns : tie.Need-returns
-returns c = (c.refusal-of.ensures ∙ ap refusal_of c.before.before.write-marker.ensures.0, c.before.before.write-marker.ensures.1)
+returns c = (c.refusal_of.ensures ∙ ap refusal_of c.write_marker-m.ensures.0, c.write_marker-m.ensures.1)
 
-pub bitbox-write-marker-spec : {M : Type 1} → statement M
-bitbox-write-marker-spec = tie.close (tie.spec write-marker-requires refusal-of-requires returns)
+pub bitbox_write_marker_spec : {M : Type 1} → statement M
+bitbox_write_marker_spec = tie.close (tie.spec write-marker-requires refusal-of-requires returns)

@@ -11,19 +11,19 @@ use borrow.Author.Rules.{rules}
 use Rattle.bitbox.proofs.bitbox_write_update.Statement.{statement}
 use Rattle.bitbox.proofs.bitbox_write_update.Tie as tie
 
-writer-of-requires : tie.Need-writer-of-requires
+writer-of-requires : tie.Need-writer_of-requires
 writer-of-requires c κs = search rules
 
 diff-requires : tie.Need-diff-requires
 diff-requires c κs = search rules
 
-write-lent-update-requires : tie.Need-write-lent-update-requires
+write-lent-update-requires : tie.Need-write_lent_update-requires
 write-lent-update-requires c κs = search rules
 
-of-written-requires : tie.Need-of-written-requires
+of-written-requires : tie.Need-of_written-requires
 of-written-requires c κs = search rules
 
-same_length : tie.Need-same-length
+same_length : tie.Need-shape_of-log
 same_length c = search rules
 
 returns : tie.Need-returns
@@ -31,21 +31,21 @@ returns c =
     let at-update = c.before.before.before in
     let at-diff = c.before.before.before.before.before in
     let at-writer-of = c.before.before.before.before.before.before.before in
-    let args = c.before.before.before.before.before.before.before.before.before.before.args in
+    let args = c.args in
     let log = args.log.now in
     let count = args.count in (
-      c.of-written.ensures
-          ∙ ap (λ (a : Answer (Unit {0})). written_words a at-update.write-lent-update.result.writer) at-update.write-lent-update.ensures.0
-          ∙ ap (written_words (update_answer log at-writer-of.Writer-of.result at-diff.diff.result.words count)) at-update.write-lent-update.ensures.1.0
-          ∙ ap (λ (w : Writer). written_words (update_answer log w at-diff.diff.result.words count) (update_writer log w at-diff.diff.result.words count)) at-writer-of.Writer-of.ensures
+      c.of_written.ensures
+          ∙ ap (λ (a : Answer (Unit {0})). written_words a at-update.write_lent_update.result.writer) at-update.write_lent_update.ensures.0
+          ∙ ap (written_words (update_answer log at-writer-of.writer_of.result at-diff.diff.result.words count)) at-update.write_lent_update.ensures.1.0
+          ∙ ap (λ (w : Writer). written_words (update_answer log w at-diff.diff.result.words count) (update_writer log w at-diff.diff.result.words count)) at-writer-of.writer_of.ensures
           ∙ ap (λ (ws : List ℕ). written_words (update_answer log (writer_of args.w) ws count) (update_writer log (writer_of args.w) ws count)) at-diff.diff.ensures,
-      at-update.write-lent-update.ensures.1.1
-          ∙ ap (λ (w : Writer). update_log log w args.id.now at-diff.diff.result.words args.nodes.now count args.elided.now args.bucket) at-writer-of.Writer-of.ensures
+      at-update.write_lent_update.ensures.1.1
+          ∙ ap (λ (w : Writer). update_log log w args.id.now at-diff.diff.result.words args.nodes.now count args.elided.now args.bucket) at-writer-of.writer_of.ensures
           ∙ ap (λ (ws : List ℕ). update_log log (writer_of args.w) args.id.now ws args.nodes.now count args.elided.now args.bucket) at-diff.diff.ensures,
     )
 
-pub bitbox-write-update-spec : {M : Type 1} → statement M
-bitbox-write-update-spec =
+pub bitbox_write_update_spec : {M : Type 1} → statement M
+bitbox_write_update_spec =
     tie.close
     (tie.spec
     writer-of-requires

@@ -8,17 +8,17 @@ use borrow.Author.Rules.{rules}
 use Rattle.bitbox.proofs.entry_refusal.Statement.{statement}
 use Rattle.bitbox.proofs.entry_refusal.Tie as tie
 
-enum-known-w : tie.Need-enum-known-w
+enum-known-w : tie.Need-enum_known-w
 enum-known-w c = search rules
 
-refusal-number-requires : tie.Need-refusal-number-requires
+refusal-number-requires : tie.Need-refusal_number-requires
 refusal-number-requires c κs = search rules
 
-returns : tie.Need-returns
-returns c = c.refusal-number.ensures ∙ sym (ap (λ (x : What). entry_refusal (what_said x)) c.before.before.w.given.1)
+returns : tie.Need-returns-in-Refused
+returns c = c.refusal_number.ensures ∙ sym (ap (λ (x : What). entry_refusal (what_said x)) c.in-Refused.is)
 
-returns-2 : tie.Need-returns-2
-returns-2 c = sym (no_refusal c.before.args.w c.match.keys2)
+returns-2 : tie.Need-returns
+returns-2 c = sym (no_refusal c.args.w c.in_default.in_default-own.keys2)
 
-pub entry-refusal-spec : {M : Type 1} → statement M
-entry-refusal-spec = tie.close (tie.spec enum-known-w refusal-number-requires returns returns-2)
+pub entry_refusal_spec : {M : Type 1} → statement M
+entry_refusal_spec = tie.close (tie.spec enum-known-w refusal-number-requires returns returns-2)

@@ -6,14 +6,14 @@ use borrow.Author.Rules.{rules}
 use Rattle.bitbox.proofs.log_start_of.Statement.{statement}
 use Rattle.bitbox.proofs.log_start_of.Tie as tie
 
-edition-of-requires : tie.Need-edition-of-requires
+edition-of-requires : tie.Need-edition_of-requires
 edition-of-requires c κs = search rules
 
 abbrev start_with : tie.Start → Edition → Start
 start_with o e = record { sync = o.args.s.sync; edition = e; seed = o.args.s.seed }
 
 returns : tie.Need-returns
-returns c = ap (start_with c.before.before) c.edition-of.ensures
+returns c = ap (start_with c.before.before) c.edition_of.ensures
 
-pub log-start-of-spec : {M : Type 1} → statement M
-log-start-of-spec = tie.close (tie.spec edition-of-requires returns)
+pub log_start_of_spec : {M : Type 1} → statement M
+log_start_of_spec = tie.close (tie.spec edition-of-requires returns)

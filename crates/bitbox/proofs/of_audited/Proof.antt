@@ -7,17 +7,17 @@ use borrow.Author.Rules.{rules}
 use Rattle.bitbox.proofs.of_audited.Statement.{statement}
 use Rattle.bitbox.proofs.of_audited.Tie as tie
 
-audit-values-requires : tie.Need-audit-values-requires
+audit-values-requires : tie.Need-audit_values-v-requires
 audit-values-requires c κs = search rules
 
-audit-refusal-requires : tie.Need-audit-refusal-requires
+audit-refusal-requires : tie.Need-audit_refusal-requires
 audit-refusal-requires c κs = search rules
 
 abbrev with_values : ℕ → Audit → Audited
 with_values k v = record { refusal = k; capacity = v.capacity; occupied = v.occupied; rate = v.rate }
 
 returns : tie.Need-returns
-returns c = ap₂ with_values c.audit-refusal.ensures c.before.audit-values.ensures
+returns c = ap₂ with_values c.audit_refusal.ensures c.audit_values-v.ensures
 
-pub of-audited-spec : {M : Type 1} → statement M
-of-audited-spec = tie.close (tie.spec audit-values-requires audit-refusal-requires returns)
+pub of_audited_spec : {M : Type 1} → statement M
+of_audited_spec = tie.close (tie.spec audit-values-requires audit-refusal-requires returns)

@@ -9,18 +9,18 @@ use borrow.Author.Rules.{rules}
 use Rattle.bitbox.proofs.of_finished.Statement.{statement}
 use Rattle.bitbox.proofs.of_finished.Tie as tie
 
-of-number-requires : tie.Need-of-number-requires
+of-number-requires : tie.Need-of_number-a-requires
 of-number-requires c κs = search rules
 
-of-writer-requires : tie.Need-of-writer-requires
+of-writer-requires : tie.Need-of_writer-requires
 of-writer-requires c κs = search rules
 
 returns : tie.Need-returns
 returns c =
-    let f = c.before.before.args.f in
-    ap (λ (x : Words). written x.refusal x.value c.of-writer.result) c.before.of_number.ensures
-    ∙ ap (λ (s : WriterState). written (number_words (number_said f.answer)).refusal (number_words (number_said f.answer)).value s) c.of-writer.ensures
+    let f = c.args.f in
+    ap (λ (x : Words). written x.refusal x.value c.of_writer.result) c.of_number-a.ensures
+    ∙ ap (λ (s : WriterState). written (number_words (number_said f.answer)).refusal (number_words (number_said f.answer)).value s) c.of_writer.ensures
     ∙ sym (finished_is (number_said f.answer) f.writer)
 
-pub of-finished-spec : {M : Type 1} → statement M
-of-finished-spec = tie.close (tie.spec of-number-requires of-writer-requires returns)
+pub of_finished_spec : {M : Type 1} → statement M
+of_finished_spec = tie.close (tie.spec of-number-requires of-writer-requires returns)

@@ -7,35 +7,35 @@ use borrow.Author.Rules.{rules}
 use Rattle.bitbox.proofs.of_grown.Statement.{statement}
 use Rattle.bitbox.proofs.of_grown.Tie as tie
 
-enum_told : tie.Need-enum-told
+enum_told : tie.Need-enum_told-1
 enum_told c = search rules
 
 value-requires : tie.Need-value-requires
 value-requires c κs = search rules
 
-enum-told-2 : tie.Need-enum-told-2
+enum-told-2 : tie.Need-enum_told-in-Done
 enum-told-2 c = search rules
 
-value-requires-2 : tie.Need-value-requires-2
+value-requires-2 : tie.Need-value-requires-in-Done
 value-requires-2 c κs = search rules
 
-enum-known-g : tie.Need-enum-known-g
+enum-known-g : tie.Need-enum_known-g
 enum-known-g c = search rules
 
 refused-requires : tie.Need-refused-requires
 refused-requires c κs = search rules
 
-returns : tie.Need-returns
-returns c = c.value.ensures ∙ sym (ap (λ (x : Grown). growth_words (grown_said x)) c.before.enum_told.given.1)
+returns : tie.Need-returns-in-NothingToDo
+returns c = c.value.ensures ∙ sym (ap (λ (x : Grown). growth_words (grown_said x)) c.in-NothingToDo.is)
 
-returns-2 : tie.Need-returns-2
-returns-2 c = c.value2.ensures ∙ sym (ap (λ (x : Grown). growth_words (grown_said x)) c.before.enum-told2.given.1)
+returns-2 : tie.Need-returns-in-Done
+returns-2 c = c.value-in-Done.ensures ∙ sym (ap (λ (x : Grown). growth_words (grown_said x)) c.in-Done.is)
 
-returns-3 : tie.Need-returns-3
-returns-3 c = c.refused.ensures ∙ sym (ap (λ (x : Grown). growth_words (grown_said x)) c.before.before.g.given.1)
+returns-3 : tie.Need-returns-in-Refused
+returns-3 c = c.refused.ensures ∙ sym (ap (λ (x : Grown). growth_words (grown_said x)) c.in-Refused.is)
 
-pub of-grown-spec : {M : Type 1} → statement M
-of-grown-spec =
+pub of_grown_spec : {M : Type 1} → statement M
+of_grown_spec =
     tie.close
     (tie.spec
     enum_told

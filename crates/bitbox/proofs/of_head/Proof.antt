@@ -7,37 +7,37 @@ use borrow.Author.Rules.{rules}
 use Rattle.bitbox.proofs.of_head.Statement.{statement}
 use Rattle.bitbox.proofs.of_head.Tie as tie
 
-enum-known-h : tie.Need-enum-known-h
+enum-known-h : tie.Need-enum_known-h
 enum-known-h c = search rules
 
-enum-known-h-2 : tie.Need-enum-known-h-2
+enum-known-h-2 : tie.Need-enum_known-h-in-Update-1
 enum-known-h-2 c = search rules
 
-enum_told : tie.Need-enum-told
+enum_told : tie.Need-enum_told-1
 enum_told c = search rules
 
-enum-known-h-3 : tie.Need-enum-known-h-3
+enum-known-h-3 : tie.Need-enum_known-h-in-Refused-1
 enum-known-h-3 c = search rules
 
-refusal-number-requires : tie.Need-refusal-number-requires
+refusal-number-requires : tie.Need-refusal_number-requires
 refusal-number-requires c κs = search rules
 
-returns : tie.Need-returns
-returns c = sym (ap₂ head_words (ap head_said c.before.h.given.1) refl)
+returns : tie.Need-returns-in-Clear
+returns c = sym (ap₂ head_words (ap head_said c.in-Clear.is) refl)
 
-returns-2 : tie.Need-returns-2
-returns-2 c = sym (ap₂ head_words (ap head_said c.before.h2.given.1) refl)
+returns-2 : tie.Need-returns-in-Update
+returns-2 c = sym (ap₂ head_words (ap head_said c.in-Update.is) refl)
 
-returns-3 : tie.Need-returns-3
-returns-3 c = sym (ap₂ head_words (ap head_said c.enum_told.given.1) refl)
+returns-3 : tie.Need-returns-in-End
+returns-3 c = sym (ap₂ head_words (ap head_said c.in-End.is) refl)
 
-returns-4 : tie.Need-returns-4
+returns-4 : tie.Need-returns-in-Refused
 returns-4 c =
-    ap₂ (λ (k p : ℕ). head k 0 0 0 p) c.refusal-number.ensures refl
-    ∙ sym (ap₂ head_words (ap head_said c.before.before.h3.given.1) refl)
+    ap₂ (λ (k p : ℕ). head k 0 0 0 p) c.refusal_number.ensures refl
+    ∙ sym (ap₂ head_words (ap head_said c.in-Refused.is) refl)
 
-pub of-head-spec : {M : Type 1} → statement M
-of-head-spec =
+pub of_head_spec : {M : Type 1} → statement M
+of_head_spec =
     tie.close
     (tie.spec
     enum-known-h

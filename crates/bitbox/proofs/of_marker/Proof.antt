@@ -8,31 +8,31 @@ use borrow.Author.Rules.{rules}
 use Rattle.bitbox.proofs.of_marker.Statement.{statement}
 use Rattle.bitbox.proofs.of_marker.Tie as tie
 
-enum-known-m : tie.Need-enum-known-m
+enum-known-m : tie.Need-enum_known-m
 enum-known-m c = search rules
 
-cast-t6 : tie.Need-overflow-cast-t6
+cast-t6 : tie.Need-overflow_cast-result
 cast-t6 c = search rules
 
-cast-t7 : tie.Need-overflow-cast-t7
+cast-t7 : tie.Need-overflow_cast-result-in-Is
 cast-t7 c = search rules
 
-enum-known-m-2 : tie.Need-enum-known-m-2
+enum-known-m-2 : tie.Need-enum_known-m-in-Refused-1
 enum-known-m-2 c = search rules
 
-refusal-number-requires : tie.Need-refusal-number-requires
+refusal-number-requires : tie.Need-refusal_number-requires
 refusal-number-requires c κs = search rules
 
-returns : tie.Need-returns
-returns c = sym (ap (λ (x : MarkerRead). marker_words (marker_said x)) c.before.m.given.1)
+returns : tie.Need-returns-in-Is
+returns c = sym (ap (λ (x : MarkerRead). marker_words (marker_said x)) c.in-Is.is)
 
-returns-2 : tie.Need-returns-2
+returns-2 : tie.Need-returns-in-Refused
 returns-2 c =
-    ap (λ (k : ℕ). marker k 0 0) c.refusal-number.ensures
-    ∙ sym (ap (λ (x : MarkerRead). marker_words (marker_said x)) c.before.before.m2.given.1)
+    ap (λ (k : ℕ). marker k 0 0) c.refusal_number.ensures
+    ∙ sym (ap (λ (x : MarkerRead). marker_words (marker_said x)) c.in-Refused.is)
 
-pub of-marker-spec : {M : Type 1} → statement M
-of-marker-spec =
+pub of_marker_spec : {M : Type 1} → statement M
+of_marker_spec =
     tie.close
     (tie.spec
     enum-known-m

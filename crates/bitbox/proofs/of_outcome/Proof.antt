@@ -7,24 +7,24 @@ use borrow.Author.Rules.{rules}
 use Rattle.bitbox.proofs.of_outcome.Statement.{statement}
 use Rattle.bitbox.proofs.of_outcome.Tie as tie
 
-enum_told : tie.Need-enum-told
+enum_told : tie.Need-enum_told-1
 enum_told c = search rules
 
 value-requires : tie.Need-value-requires
 value-requires c κs = search rules
 
-enum-known-o : tie.Need-enum-known-o
+enum-known-o : tie.Need-enum_known-o
 enum-known-o c = search rules
 
 refused-requires : tie.Need-refused-requires
 refused-requires c κs = search rules
 
-returns : tie.Need-returns
-returns c = c.value.ensures ∙ sym (ap (λ (x : Outcome). outcome_words (outcome_said x)) c.before.enum_told.given.1)
+returns : tie.Need-returns-in-Done
+returns c = c.value.ensures ∙ sym (ap (λ (x : Outcome). outcome_words (outcome_said x)) c.in-Done.is)
 
-returns-2 : tie.Need-returns-2
-returns-2 c = c.refused.ensures ∙ sym (ap (λ (x : Outcome). outcome_words (outcome_said x)) c.before.before.o.given.1)
+returns-2 : tie.Need-returns-in-Refused
+returns-2 c = c.refused.ensures ∙ sym (ap (λ (x : Outcome). outcome_words (outcome_said x)) c.in-Refused.is)
 
-pub of-outcome-spec : {M : Type 1} → statement M
-of-outcome-spec =
+pub of_outcome_spec : {M : Type 1} → statement M
+of_outcome_spec =
     tie.close (tie.spec enum_told value-requires enum-known-o refused-requires returns returns-2)

@@ -6,11 +6,11 @@ use borrow.Author.Rules.{rules}
 use Rattle.bitbox.proofs.of_state.Statement.{statement}
 use Rattle.bitbox.proofs.of_state.Tie as tie
 
-of-writer-requires : tie.Need-of-writer-requires
+of-writer-requires : tie.Need-of_writer-requires
 of-writer-requires c κs = search rules
 
 returns : tie.Need-returns
-returns c = ap (λ (w : WriterState). state_as c.before.args.st.n w c.before.args.st.occupied) c.of-writer.ensures
+returns c = ap (λ (w : WriterState). state_as c.args.st.n w c.args.st.occupied) c.of_writer.ensures
 
-pub of-state-spec : {M : Type 1} → statement M
-of-state-spec = tie.close (tie.spec of-writer-requires returns)
+pub of_state_spec : {M : Type 1} → statement M
+of_state_spec = tie.close (tie.spec of-writer-requires returns)

@@ -6,14 +6,14 @@ use borrow.Author.Rules.{rules}
 use Rattle.bitbox.proofs.of_sync.Statement.{statement}
 use Rattle.bitbox.proofs.of_sync.Tie as tie
 
-of-writer-requires : tie.Need-of-writer-requires
+of-writer-requires : tie.Need-of_writer-requires
 of-writer-requires c κs = search rules
 
-of-synced-requires : tie.Need-of-synced-requires
+of-synced-requires : tie.Need-of_synced-requires
 of-synced-requires c κs = search rules
 
 returns : tie.Need-returns
-returns c = c.of-synced.ensures ∙ ap (sync_words (synced_said c.before.before.args.a.synced)) c.before.of-writer.ensures
+returns c = c.of_synced.ensures ∙ ap (sync_words (synced_said c.args.a.synced)) c.of_writer.ensures
 
-pub of-sync-spec : {M : Type 1} → statement M
-of-sync-spec = tie.close (tie.spec of-writer-requires of-synced-requires returns)
+pub of_sync_spec : {M : Type 1} → statement M
+of_sync_spec = tie.close (tie.spec of-writer-requires of-synced-requires returns)

@@ -7,35 +7,35 @@ use borrow.Author.Rules.{rules}
 use Rattle.bitbox.proofs.of_truth.Statement.{statement}
 use Rattle.bitbox.proofs.of_truth.Tie as tie
 
-enum_told : tie.Need-enum-told
+enum_told : tie.Need-enum_told-1
 enum_told c = search rules
 
 value-requires : tie.Need-value-requires
 value-requires c κs = search rules
 
-enum-told-2 : tie.Need-enum-told-2
+enum-told-2 : tie.Need-enum_told-in-Fails
 enum-told-2 c = search rules
 
-value-requires-2 : tie.Need-value-requires-2
+value-requires-2 : tie.Need-value-requires-in-Fails
 value-requires-2 c κs = search rules
 
-enum-known-t : tie.Need-enum-known-t
+enum-known-t : tie.Need-enum_known-t
 enum-known-t c = search rules
 
 refused-requires : tie.Need-refused-requires
 refused-requires c κs = search rules
 
-returns : tie.Need-returns
-returns c = c.value.ensures ∙ sym (ap (λ (x : Truth). truth_words (truth_said x)) c.before.enum_told.given.1)
+returns : tie.Need-returns-in-Holds
+returns c = c.value.ensures ∙ sym (ap (λ (x : Truth). truth_words (truth_said x)) c.in-Holds.is)
 
-returns-2 : tie.Need-returns-2
-returns-2 c = c.value2.ensures ∙ sym (ap (λ (x : Truth). truth_words (truth_said x)) c.before.enum-told2.given.1)
+returns-2 : tie.Need-returns-in-Fails
+returns-2 c = c.value-in-Fails.ensures ∙ sym (ap (λ (x : Truth). truth_words (truth_said x)) c.in-Fails.is)
 
-returns-3 : tie.Need-returns-3
-returns-3 c = c.refused.ensures ∙ sym (ap (λ (x : Truth). truth_words (truth_said x)) c.before.before.t.given.1)
+returns-3 : tie.Need-returns-in-Refused
+returns-3 c = c.refused.ensures ∙ sym (ap (λ (x : Truth). truth_words (truth_said x)) c.in-Refused.is)
 
-pub of-truth-spec : {M : Type 1} → statement M
-of-truth-spec =
+pub of_truth_spec : {M : Type 1} → statement M
+of_truth_spec =
     tie.close
     (tie.spec
     enum_told

@@ -9,18 +9,18 @@ use borrow.Author.Rules.{rules}
 use Rattle.bitbox.proofs.of_written.Statement.{statement}
 use Rattle.bitbox.proofs.of_written.Tie as tie
 
-refusal-of-requires : tie.Need-refusal-of-requires
+refusal-of-requires : tie.Need-refusal_of-requires
 refusal-of-requires c κs = search rules
 
-of-writer-requires : tie.Need-of-writer-requires
+of-writer-requires : tie.Need-of_writer-requires
 of-writer-requires c κs = search rules
 
 returns : tie.Need-returns
 returns c =
-    let w = c.before.before.args.w in
-    ap (λ (k : ℕ). written k 0 c.of-writer.result) c.before.refusal-of.ensures
-    ∙ ap (written (refusal_of (outcome_said w.outcome)) 0) c.of-writer.ensures
+    let w = c.args.w in
+    ap (λ (k : ℕ). written k 0 c.of_writer.result) c.refusal_of.ensures
+    ∙ ap (written (refusal_of (outcome_said w.outcome)) 0) c.of_writer.ensures
     ∙ sym (written_is (outcome_said w.outcome) w.writer)
 
-pub of-written-spec : {M : Type 1} → statement M
-of-written-spec = tie.close (tie.spec refusal-of-requires of-writer-requires returns)
+pub of_written_spec : {M : Type 1} → statement M
+of_written_spec = tie.close (tie.spec refusal-of-requires of-writer-requires returns)

@@ -7,14 +7,14 @@ use borrow.Author.Rules.{rules}
 use Rattle.bitbox.proofs.state_of.Statement.{statement}
 use Rattle.bitbox.proofs.state_of.Tie as tie
 
-hit-limit-requires : tie.Need-hit-limit-requires
+hit-limit-requires : tie.Need-hit_limit-requires
 hit-limit-requires c κs = search rules
 
-writer-of-requires : tie.Need-writer-of-requires
+writer-of-requires : tie.Need-writer_of-requires
 writer-of-requires c κs = search rules
 
 returns : tie.Need-returns
-returns c = let s = c.before.before.args.st in ap₂ (λ (l : Limit) (w : Writer). step_state s.n l w s.occupied) c.before.hit-limit.ensures c.Writer-of.ensures
+returns c = let s = c.args.st in ap₂ (λ (l : Limit) (w : Writer). step_state s.n l w s.occupied) c.hit_limit.ensures c.writer_of.ensures
 
-pub state-of-spec : {M : Type 1} → statement M
-state-of-spec = tie.close (tie.spec hit-limit-requires writer-of-requires returns)
+pub state_of_spec : {M : Type 1} → statement M
+state_of_spec = tie.close (tie.spec hit-limit-requires writer-of-requires returns)
