@@ -4,7 +4,7 @@
 // which other lines fill.
 #![tactic(auto)]
 
-ghost use Rattle.std.specs.Prelude.{◌≤◌};
+ghost use Rattle.std.specs.Prelude.{◌≡◌, ◌≤◌, length};
 
 use page_diff::Diff;
 use vector_memory::{
@@ -405,15 +405,15 @@ fn replayed(text: &[u8]) -> Count {
     lines(text, &mut a, &mut b, &mut c)
 }
 
-// Room for the list.
-fn room() -> [u8; 524288]
-    ensures { 524288 ≡ length result }
+// Room for so many bytes.
+fn room<const N: usize>() -> [u8; N]
+    ensures { N ≡ length result }
 {
-    [0; 524288]
+    [0; N]
 }
 
 fn main() {
-    let mut text = room();
+    let mut text = room::<524288>();
     let len = io::read_full(0, &mut text);
     let count = replayed(part(&text, len));
     io::print_decimal(1, count.answers);
