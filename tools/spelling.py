@@ -13,14 +13,14 @@ import pathlib
 import re
 import sys
 
-DEFINED = re.compile(r"^(?:pub |abbrev |unfoldable |mutual )*([A-Za-z_][^\s(){}:,;.]*)(?: [A-Za-z_][^\s(){}:,;.]*)* :(?: |$)")
+DEFINED = re.compile(r"^ *(?:pub |abbrev |unfoldable |mutual )*([A-Za-z_][^\s(){}:,;.]*)(?: [A-Za-z_][^\s(){}:,;.]*)* :(?: |$)")
 TOKEN = re.compile(r"(?<![A-Za-z0-9_'])[A-Za-z_][A-Za-z0-9_'₀-₉]*(?:-[A-Za-z0-9_'₀-₉]+)*")
 CODE = re.compile(r"(?<![A-Za-z0-9_'])[A-Za-z_][A-Za-z0-9_₀-₉]*(?:-[A-Za-z0-9_₀-₉]+)*(?!')")
-# the library's names that stand as a part of ours
-LIBRARY = set("length drop take append mod pow suc le get_or snoc replicate shr or and ones set".split())
+# the functions whose names stand as a part of a lemma's, behind a dash; any other word is added with `_`
+FUNCTIONS = set("length drop take append mod pow suc le get_or snoc replicate shr block put tabulate bytes_of flat".split())
 # what falls together with another name once it is in snake case
 STAYS = set()
-OTHERWISE = {"said-done": "said_done_lem", "logStart": "log_start_of", "at-change": "at_change_lem", "after-end": "after_end_lem", "log-two": "log_two_lem",
+OTHERWISE = {"bit-or": "bit_or_lem", "said-done": "said_done_lem", "logStart": "log_start_of", "at-change": "at_change_lem", "after-end": "after_end_lem", "log-two": "log_two_lem",
              "put-end": "put_end_lem", "put-start": "put_start_lem", "nodes-at": "nodes_at_lem", "read-entry": "read_entry_lem"}
 
 
@@ -41,24 +41,24 @@ def texts(top):
 
 def main():
     top = pathlib.Path(".")
-    defined, words = set(), set(LIBRARY)
+    defined = set()
     for path in sorted(top.glob("crates/*/specs/*.antt")) + sorted(top.glob("crates/*/proofs/*.antt")):
         for line in path.read_text().split("\n"):
             found = DEFINED.match(line)
             if found:
                 defined.add(found.group(1))
-                if "specs" in path.parts and "-" not in found.group(1):
-                    words.add(snake(found.group(1)))
 
     def lemma(name):
         parts = [snake(part) for part in name.split("-")]
         out = parts[0]
         for part in parts[1:]:
-            out += ("-" if part in words and part not in ("at", "is") else "_") + part
+            joined = part in FUNCTIONS or any(part.startswith(word + "_") for word in FUNCTIONS - {"le", "suc"})
+            out += ("-" if joined else "_") + part
         return out
 
     plain = {snake(name) for name in defined if "-" not in name}
-    named = {name: lemma(name) + ("_lem" if lemma(name) in plain else "") for name in defined if "-" in name}
+    named = {name: lemma(name) + ("_lem" if lemma(name) in plain else "") for name in defined
+             if "-" in name and name[0].islower()}
     changed = collections.Counter()
 
     def renamed(token):

@@ -75,39 +75,39 @@ named_number OtherStore = refl
 named_number AfterEndUsed = refl
 
 -- no two refusals have one number
-pub refusal-one : (a b : Refusal) → number_of a ≡ number_of b → a ≡ b
-refusal-one a b e = sym (named_number a) ∙ ap named e ∙ named_number b
+pub refusal_one : (a b : Refusal) → number_of a ≡ number_of b → a ≡ b
+refusal_one a b e = sym (named_number a) ∙ ap named e ∙ named_number b
 
 module _ {A : Type 0} where
   -- a refusal is no value, and has one number
-  pub given-refused : (a : A) (n : ℕ) → given a ≡ refused n → ⊥
-  given-refused a n e = let z : ◌≡◌ {A = ℕ} 0 1 = cc in omega arith
+  pub given_refused : (a : A) (n : ℕ) → given a ≡ refused n → ⊥
+  given_refused a n e = let z : ◌≡◌ {A = ℕ} 0 1 = cc in omega arith
 
-  pub refused-one : (m n : ℕ) → ◌≡◌ {A = Answer A} (refused m) (refused n) → m ≡ n
-  refused-one m n e = cc
+  pub refused_one : (m n : ℕ) → ◌≡◌ {A = Answer A} (refused m) (refused n) → m ≡ n
+  refused_one m n e = cc
 
-  pub given-one : (a b : A) → given a ≡ given b → a ≡ b
-  given-one a b e = cc
+  pub given_one : (a b : A) → given a ≡ given b → a ≡ b
+  given_one a b e = cc
 
-pub outcome-one : (a b : Outcome) → outcome_said a ≡ outcome_said b → a ≡ b
-outcome-one outcome.Done outcome.Done e = refl
-outcome-one outcome.Done (outcome.Refused s) e = absurd (given-refused tt (number_of s) e)
-outcome-one (outcome.Refused r) outcome.Done e = absurd (given-refused tt (number_of r) (sym e))
-outcome-one (outcome.Refused r) (outcome.Refused s) e = ap outcome.Refused (refusal-one r s (refused-one (number_of r) (number_of s) e))
+pub outcome_one : (a b : Outcome) → outcome_said a ≡ outcome_said b → a ≡ b
+outcome_one outcome.Done outcome.Done e = refl
+outcome_one outcome.Done (outcome.Refused s) e = absurd (given_refused tt (number_of s) e)
+outcome_one (outcome.Refused r) outcome.Done e = absurd (given_refused tt (number_of r) (sym e))
+outcome_one (outcome.Refused r) (outcome.Refused s) e = ap outcome.Refused (refusal_one r s (refused_one (number_of r) (number_of s) e))
 
-pub number-one : (a b : Number) → number_said a ≡ number_said b → a ≡ b
-number-one (num.Is x) (num.Is y) e = ap num.Is (given-one x y e)
-number-one (num.Is x) (num.Refused s) e = absurd (given-refused x (number_of s) e)
-number-one (num.Refused r) (num.Is y) e = absurd (given-refused y (number_of r) (sym e))
-number-one (num.Refused r) (num.Refused s) e = ap num.Refused (refusal-one r s (refused-one (number_of r) (number_of s) e))
+pub number_one : (a b : Number) → number_said a ≡ number_said b → a ≡ b
+number_one (num.Is x) (num.Is y) e = ap num.Is (given_one x y e)
+number_one (num.Is x) (num.Refused s) e = absurd (given_refused x (number_of s) e)
+number_one (num.Refused r) (num.Is y) e = absurd (given_refused y (number_of r) (sym e))
+number_one (num.Refused r) (num.Refused s) e = ap num.Refused (refusal_one r s (refused_one (number_of r) (number_of s) e))
 
-pub truth-one : (a b : Truth) → truth_said a ≡ truth_said b → a ≡ b
-truth-one truth.Holds truth.Holds e = refl
-truth-one truth.Holds truth.Fails e = let z : ◌≡◌ {A = ℕ} 0 1 = cc in absurd (omega arith)
-truth-one truth.Holds (truth.Refused s) e = let z : ◌≡◌ {A = ℕ} 0 1 = cc in absurd (omega arith)
-truth-one truth.Fails truth.Holds e = let z : ◌≡◌ {A = ℕ} 0 1 = cc in absurd (omega arith)
-truth-one truth.Fails truth.Fails e = refl
-truth-one truth.Fails (truth.Refused s) e = let z : ◌≡◌ {A = ℕ} 0 1 = cc in absurd (omega arith)
-truth-one (truth.Refused r) truth.Holds e = let z : ◌≡◌ {A = ℕ} 0 1 = cc in absurd (omega arith)
-truth-one (truth.Refused r) truth.Fails e = let z : ◌≡◌ {A = ℕ} 0 1 = cc in absurd (omega arith)
-truth-one (truth.Refused r) (truth.Refused s) e = ap truth.Refused (refusal-one r s (refused-one (number_of r) (number_of s) e))
+pub truth_one : (a b : Truth) → truth_said a ≡ truth_said b → a ≡ b
+truth_one truth.Holds truth.Holds e = refl
+truth_one truth.Holds truth.Fails e = let z : ◌≡◌ {A = ℕ} 0 1 = cc in absurd (omega arith)
+truth_one truth.Holds (truth.Refused s) e = let z : ◌≡◌ {A = ℕ} 0 1 = cc in absurd (omega arith)
+truth_one truth.Fails truth.Holds e = let z : ◌≡◌ {A = ℕ} 0 1 = cc in absurd (omega arith)
+truth_one truth.Fails truth.Fails e = refl
+truth_one truth.Fails (truth.Refused s) e = let z : ◌≡◌ {A = ℕ} 0 1 = cc in absurd (omega arith)
+truth_one (truth.Refused r) truth.Holds e = let z : ◌≡◌ {A = ℕ} 0 1 = cc in absurd (omega arith)
+truth_one (truth.Refused r) truth.Fails e = let z : ◌≡◌ {A = ℕ} 0 1 = cc in absurd (omega arith)
+truth_one (truth.Refused r) (truth.Refused s) e = ap truth.Refused (refusal_one r s (refused_one (number_of r) (number_of s) e))

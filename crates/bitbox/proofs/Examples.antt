@@ -70,9 +70,9 @@ pub syncs : (state_of (record { n = 3; writer = record { kind = 1; at = 5 }; occ
 syncs = (refl, refl, refl, refl)
 
 -- a marker's counts, and an audit with the rate 0.5, by its bits; a refused one has 0.0
-pub growth-and_audit : (map marker_words (given (record { old = 4; new = 8 }) ∷ refused 16 ∷ []) ≡ record { refusal = 0; old = 4; new = 8 } ∷ record { refusal = 16; old = 0; new = 0 } ∷ [])
+pub growth_and_audit : (map marker_words (given (record { old = 4; new = 8 }) ∷ refused 16 ∷ []) ≡ record { refusal = 0; old = 4; new = 8 } ∷ record { refusal = 16; old = 0; new = 0 } ∷ [])
     × (map audit_words (given (record { capacity = 2; occupied = 1; rate = Ieee.of_bits binary64 0x3FE0000000000000 }) ∷ refused 21 ∷ [])
     ≡ record { refusal = 0; capacity = 2; occupied = 1; rate = Ieee.of_bits binary64 0x3FE0000000000000 } ∷ record { refusal = 21; capacity = 0; occupied = 0; rate = Ieee.of_bits binary64 0 } ∷ [])
     × (pair 5 6 ≡ 5 ∷ 6 ∷ [])
 unfolding Ieee.of_bits Ieee.of_int
-growth-and_audit = (refl, refl, refl)
+growth_and_audit = (refl, refl, refl)

@@ -19,8 +19,8 @@ use Rattle.sync.specs.Sync.{entries_of, hashes_of, start_mem, start_state, SyncS
 use Rattle.sync.specs.declared.Change.{Change}
 use Rattle.sync.specs.declared.SyncAnswer.{SyncAnswer as Answer}
 use Rattle.sync.specs.declared.Synced.TheVariants.{Done}
-use Rattle.sync.proofs.Refused.{OfStart, table_unfit, lengths-unfit, no-page-of-log, OfChange, reserved-bit, cell-index, bucket-outside, bucket-unfit, no_room, path-crowded, path-closed, start_number, refused-before, refused-at}
-use Rattle.sync.proofs.Promises.{sync-reads-back, sync-replays}
+use Rattle.sync.proofs.Refused.{OfStart, table_unfit, lengths_unfit, no_page_of_log, OfChange, reserved_bit, cell_index, bucket_outside, bucket_unfit, no_room, path_crowded, path_closed, start_number, refused_before, refused_at_lem}
+use Rattle.sync.proofs.Promises.{sync_reads_back, sync_replays}
 use Rattle.bitbox.specs.Words.{log_start_of, writer_of, writer_words, sync_start, sync_words, SyncExport}
 use Rattle.bitbox.specs.declared.LogStart.{LogStart}
 use Rattle.bitbox.specs.declared.SyncAnswer.{SyncAnswer}
@@ -29,17 +29,17 @@ use Rattle.bitbox.specs.declared.WriterState.{WriterState}
 -- 0 is the number of no refusal
 no_start : (k : ℕ) → OfStart k → k ≡ 0 → ⊥
 no_start k table_unfit e = omega arith
-no_start k lengths-unfit e = omega arith
-no_start k no-page-of-log e = omega arith
+no_start k lengths_unfit e = omega arith
+no_start k no_page_of_log e = omega arith
 
 no_change : (k : ℕ) → OfChange k → k ≡ 0 → ⊥
-no_change k reserved-bit e = omega arith
-no_change k cell-index e = omega arith
-no_change k bucket-outside e = omega arith
-no_change k bucket-unfit e = omega arith
+no_change k reserved_bit e = omega arith
+no_change k cell_index e = omega arith
+no_change k bucket_outside e = omega arith
+no_change k bucket_unfit e = omega arith
 no_change k no_room e = omega arith
-no_change k path-crowded e = omega arith
-no_change k path-closed e = omega arith
+no_change k path_crowded e = omega arith
+no_change k path_closed e = omega arith
 
 module _ (n : ℕ) (m : Mem) (pages : List ℕ) (cs : List Change) (from : LogStart) (w : WriterState) (r : SyncAnswer) (after : Mem) (x : SyncExport n m pages cs from w r after) (ok : r.refusal ≡ 0) where
   abbrev start : Start
@@ -49,8 +49,8 @@ module _ (n : ℕ) (m : Mem) (pages : List ℕ) (cs : List Change) (from : LogSt
   abbrev pub answered : Answer
   answered = record { synced = Done r.occupied r.length; writer = sync_writer n m pages cs start (writer_of w) }
 
-  done-said : sync_says n m pages cs start ≡ said_done r.occupied r.length
-  done-said = go (sync_says n m pages cs start) refl
+  done_said : sync_says n m pages cs start ≡ said_done r.occupied r.length
+  done_said = go (sync_says n m pages cs start) refl
     where
       go : (s : SyncSaid) → sync_says n m pages cs start ≡ s → sync_says n m pages cs start ≡ said_done r.occupied r.length
       go (said_done o l) e =
@@ -58,28 +58,28 @@ module _ (n : ℕ) (m : Mem) (pages : List ℕ) (cs : List Change) (from : LogSt
           e ∙ ap₂ said_done (sym (ap (λ (a : SyncAnswer). a.occupied) z)) (sym (ap (λ (a : SyncAnswer). a.length) z))
       go (said_refused k) e =
           let z : r.refusal ≡ k = ap (λ (a : SyncAnswer). a.refusal) x.answer ∙ ap (λ (s : SyncSaid). (sync_words s (writer_words (sync_writer n m pages cs start (writer_of w)))).refusal) e in
-          absurd (no_start k (start_number n m pages (length cs) k (refused-before n m pages cs start k e).0) (sym z ∙ ok))
+          absurd (no_start k (start_number n m pages (length cs) k (refused_before n m pages cs start k e).0) (sym z ∙ ok))
       go (said_refused_at j k) e =
           let z : r.refusal ≡ k = ap (λ (a : SyncAnswer). a.refusal) x.answer ∙ ap (λ (s : SyncSaid). (sync_words s (writer_words (sync_writer n m pages cs start (writer_of w)))).refusal) e in
-          absurd (no_change k (refused-at n m pages cs start j k e).number (sym z ∙ ok))
+          absurd (no_change k (refused_at_lem n m pages cs start j k e).number (sym z ∙ ok))
 
-  pub exported-sync : SyncPromise (sync_start n w from) m pages cs answered after
-  exported-sync =
+  pub exported_sync : SyncPromise (sync_start n w from) m pages cs answered after
+  exported_sync =
       record {
-        says = sym done-said;
+        says = sym done_said;
         writer = refl;
         memory = x.memory;
-        widths = subst (λ (s : SyncSaid). widths_by s cs start) done-said x.widths;
+        widths = subst (λ (s : SyncSaid). widths_by s cs start) done_said x.widths;
       }
 
   -- so its log reads back by every reader, and every replay accepts it with the hashes of the changes that do not clear
-  pub exported-reads-back : (rule : AfterEnd) → read_log rule (take r.length after.log)
+  pub exported_reads_back : (rule : AfterEnd) → read_log rule (take r.length after.log)
       ≡ record {
         entries = entries_of (start_mem m (log_start_of from)) pages cs 0 (start_state n m (log_start_of from));
         at = end_of (log_start_of from) (entries_of (start_mem m (log_start_of from)) pages cs 0 (start_state n m (log_start_of from)));
         stop = given tt;
       }
-  exported-reads-back = sync-reads-back (sync_start n w from) m pages cs answered after exported-sync r.occupied r.length refl
+  exported_reads_back = sync_reads_back (sync_start n w from) m pages cs answered after exported_sync r.occupied r.length refl
 
-  pub exported-replays : (rule : AfterEnd) (want : Expected) → Own (log_start_of from) want → (table : List ℕ) → image_fits n (length table) ≡ true → replay_answer rule n table (take r.length after.log) want (hashes_of cs) ≡ given applied
-  exported-replays = sync-replays (sync_start n w from) m pages cs answered after exported-sync r.occupied r.length refl
+  pub exported_replays : (rule : AfterEnd) (want : Expected) → Own (log_start_of from) want → (table : List ℕ) → image_fits n (length table) ≡ true → replay_answer rule n table (take r.length after.log) want (hashes_of cs) ≡ given applied
+  exported_replays = sync_replays (sync_start n w from) m pages cs answered after exported_sync r.occupied r.length refl

@@ -17,18 +17,18 @@ one_diff_answer a b e f = ap₂ (λ k d. record { refusal = k; diff = d }) e (on
 pub one_pack_answer : (a b : PackAnswer) → a.refusal ≡ b.refusal → a.packed ≡ b.packed → a ≡ b
 one_pack_answer a b e f = ap₂ (λ k p. record { refusal = k; packed = p }) e f
 
-pub one-marker_bytes : (a b : MarkerBytes) → a.refusal ≡ b.refusal → a.bytes ≡ b.bytes → a ≡ b
-one-marker_bytes a b e f = ap₂ (λ k bs. record { refusal = k; bytes = bs }) e f
+pub one_marker_bytes : (a b : MarkerBytes) → a.refusal ≡ b.refusal → a.bytes ≡ b.bytes → a ≡ b
+one_marker_bytes a b e f = ap₂ (λ k bs. record { refusal = k; bytes = bs }) e f
 
 -- and of `bitbox_reader_next`
 pub one_entry : (n : Next) (at : ℕ) (a b : Entry) → Read n at a → Read n at b → a ≡ b
 one_entry n at a b s t =
     let r = s.refusal_is ∙ sym t.refusal_is in
-    let k = s.kind-is ∙ sym t.kind-is in
-    let b' = s.bucket-is ∙ sym t.bucket-is in
-    let p = s.next-is ∙ sym t.next-is in
-    let i = s.id-is ∙ sym t.id-is in
+    let k = s.kind_is ∙ sym t.kind_is in
+    let b' = s.bucket_is ∙ sym t.bucket_is in
+    let p = s.next_is ∙ sym t.next_is in
+    let i = s.id_is ∙ sym t.id_is in
     let d = one_diff a.diff b.diff (s.diff_is ∙ sym t.diff_is) in
-    let ns = s.packed-is ∙ sym t.packed-is in
-    let el = s.elided-is ∙ sym t.elided-is in
+    let ns = s.packed_is ∙ sym t.packed_is in
+    let el = s.elided_is ∙ sym t.elided_is in
     λ j. record { refusal = r j; kind = k j; bucket = b' j; next = p j; id = i j; diff = d j; packed = ns j; elided = el j }

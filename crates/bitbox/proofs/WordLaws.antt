@@ -41,12 +41,12 @@ no_refusal (what.Refused r) o = absurd (out 3 refl o)
 pub worded_read : (n : Next) (at : ℕ) (e : WalEntry) (r : Entry) → Taken n at e → Worded e r → Read n at r
 worded_read n at e r t w =
     record {
-      refusal_is = w.refusal_is ∙ ap entry_refusal t.what-is;
-      kind-is = w.kind-is ∙ ap entry_kind t.what-is;
-      bucket-is = w.bucket-is ∙ ap entry_bucket t.what-is;
-      next-is = w.next-is ∙ t.next-is;
-      id-is = w.id-is ∙ t.id-is;
+      refusal_is = w.refusal_is ∙ ap entry_refusal t.what_is;
+      kind_is = w.kind_is ∙ ap entry_kind t.what_is;
+      bucket_is = w.bucket_is ∙ ap entry_bucket t.what_is;
+      next_is = w.next_is ∙ t.next_is;
+      id_is = w.id_is ∙ t.id_is;
       diff_is = w.diff_is ∙ t.diff_is;
-      packed-is = w.packed-is ∙ t.packed-is;
-      elided-is = w.elided-is ∙ t.elided-is;
+      packed_is = w.packed_is ∙ t.packed_is;
+      elided_is = w.elided_is ∙ t.elided_is;
     }

@@ -7,10 +7,10 @@ use Rattle.bitbox.specs.declared.Entry.{Entry}
 
 pub record Worded (e : WalEntry) (r : Entry) : Type 0 where
   pub refusal_is : r.refusal ≡ entry_refusal (what_said e.what)
-  pub kind-is : r.kind ≡ entry_kind (what_said e.what)
-  pub bucket-is : r.bucket ≡ entry_bucket (what_said e.what)
-  pub next-is : r.next ≡ e.next
-  pub id-is : r.id ≡ e.id
+  pub kind_is : r.kind ≡ entry_kind (what_said e.what)
+  pub bucket_is : r.bucket ≡ entry_bucket (what_said e.what)
+  pub next_is : r.next ≡ e.next
+  pub id_is : r.id ≡ e.id
   pub diff_is : r.diff.words ≡ e.diff.words
-  pub packed-is : r.packed ≡ e.packed
-  pub elided-is : r.elided ≡ e.elided
+  pub packed_is : r.packed ≡ e.packed
+  pub elided_is : r.elided ≡ e.elided

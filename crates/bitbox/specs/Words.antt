@@ -99,13 +99,13 @@ entry_bucket (refuses k) = 0
 -- the fields of what stands at a position
 pub record Read (n : Next) (at : ℕ) (e : Entry) : Type 0 where
   pub refusal_is : e.refusal ≡ entry_refusal (what_of n)
-  pub kind-is : e.kind ≡ entry_kind (what_of n)
-  pub bucket-is : e.bucket ≡ entry_bucket (what_of n)
-  pub next-is : e.next ≡ next_of n at
-  pub id-is : e.id ≡ id_of n
+  pub kind_is : e.kind ≡ entry_kind (what_of n)
+  pub bucket_is : e.bucket ≡ entry_bucket (what_of n)
+  pub next_is : e.next ≡ next_of n at
+  pub id_is : e.id ≡ id_of n
   pub diff_is : e.diff.words ≡ diff_of n
-  pub packed-is : e.packed ≡ packed_of n
-  pub elided-is : e.elided ≡ elided_of n
+  pub packed_is : e.packed ≡ packed_of n
+  pub elided_is : e.elided ≡ elided_of n
 
 -- an entry seen without its fields, by the same kinds: bucket, count of nodes, where the next one stands; "position unchanged" at the end and on
 -- a refusal

@@ -150,8 +150,8 @@ put_in s at bs i h l u =
     ∙ ap (λ (n : ℕ). get_or (take at s ++ bs) n 0) there
     ∙ get_or-append-add (take at s) bs (i - at) 0
 
-pub put-left : (s : List ℕ) (at : ℕ) (bs : List ℕ) (i : ℕ) → i < at → get_or (put s at bs) i 0 ≡ get_or s i 0
-put-left s at bs i l = go (dec_le (at + length bs) (length s))
+pub put_left : (s : List ℕ) (at : ℕ) (bs : List ℕ) (i : ℕ) → i < at → get_or (put s at bs) i 0 ≡ get_or s i 0
+put_left s at bs i l = go (dec_le (at + length bs) (length s))
   where
     go : Dec (at + length bs ≤ length s) → get_or (put s at bs) i 0 ≡ get_or s i 0
     go (yes p) =
@@ -185,7 +185,7 @@ put_bytes s at bs hs hb i h = go (dec_lt i at) (dec_le (at + length bs) i) (dec_
     l = omega (arith, put-length s at bs)
 
     go : Dec (i < at) → Dec (at + length bs ≤ i) → Dec (at + length bs ≤ length s) → get_or (put s at bs) i 0 < 256
-    go (yes p) q r = omega (arith, put-left s at bs i p, hs i l)
+    go (yes p) q r = omega (arith, put_left s at bs i p, hs i l)
     go (no p) (yes q) r = omega (arith, put_right s at bs i q, hs i l)
     go (no p) (no q) (yes r) = omega (arith, put_in s at bs i r (omega arith) (omega arith), hb (i - at) (omega arith))
     go (no p) (no q) (no r) = omega (arith, ap (λ (x : List ℕ). get_or x i 0) (put_short s at bs (lt_of_not-le r)), hs i l)
@@ -219,14 +219,14 @@ block_same k s t a e f = go (dec_le (a + k) (length s))
         block-get_or k s a i p j ∙ f i j ∙ sym (block-get_or k t a i (omega arith) j))
     go (no p) = block_short k s a (lt_of_not-le p) ∙ sym (block_short k t a (omega arith))
 
-pub block-put-left : (k : ℕ) (s : List ℕ) (at : ℕ) (bs : List ℕ) (a : ℕ) → a + k ≤ at → block k (put s at bs) a ≡ block k s a
-block-put-left k s at bs a h = block_same k (put s at bs) s a (put-length s at bs) (λ i l. put-left s at bs (a + i) (omega arith))
+pub block-put_left : (k : ℕ) (s : List ℕ) (at : ℕ) (bs : List ℕ) (a : ℕ) → a + k ≤ at → block k (put s at bs) a ≡ block k s a
+block-put_left k s at bs a h = block_same k (put s at bs) s a (put-length s at bs) (λ i l. put_left s at bs (a + i) (omega arith))
 
 pub block-put_right : (k : ℕ) (s : List ℕ) (at : ℕ) (bs : List ℕ) (a : ℕ) → at + length bs ≤ a → block k (put s at bs) a ≡ block k s a
 block-put_right k s at bs a h = block_same k (put s at bs) s a (put-length s at bs) (λ i l. put_right s at bs (a + i) (omega arith))
 
 pub block-put_apart : (k : ℕ) (s : List ℕ) (at : ℕ) (bs : List ℕ) (a : ℕ) → (a + k ≤ at) ⊎ (at + length bs ≤ a) → block k (put s at bs) a ≡ block k s a
-block-put_apart k s at bs a = ⊎_elim (block-put-left k s at bs a) (block-put_right k s at bs a)
+block-put_apart k s at bs a = ⊎_elim (block-put_left k s at bs a) (block-put_right k s at bs a)
 
 -- ---- a tabulated list
 

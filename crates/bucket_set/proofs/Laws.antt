@@ -14,7 +14,7 @@ use lib.Seq.{get_or-set_same, get_or-set_other, set_out, ext_get_or}
 use borrow.Author.Tests.{eq-eqb, ne_eqb, eqb-true, eqb-false}
 use Rattle.page_diff.specs.Diff.{digit, marked}
 use Rattle.page_diff.proofs.Digits.{digit_lt, digit_none, more_digits}
-use Rattle.page_diff.proofs.MarkLaws.{bit, bit-or, bit-pow, off}
+use Rattle.page_diff.proofs.MarkLaws.{bit, bit_or_lem, bit-pow, off}
 use Rattle.bucket_set.specs.Numbers.{holds_in, with_number, none_of}
 
 -- `1 << i` at 64 bits
@@ -24,37 +24,37 @@ one_shifted i l =
     mod-eq_of_lt (subst (λ (n : ℕ). n < 2 ^ 64) (sym e) (pow-lt l)) ∙ e
 
 -- a word that is zero holds nothing
-zero-holds : (x i : ℕ) → x ≡ 0 → bit x i ≡ false
-zero-holds x i e = off (ap (λ (y : ℕ). digit y i) e ∙ digit_none i)
+zero_holds : (x i : ℕ) → x ≡ 0 → bit x i ≡ false
+zero_holds x i e = off (ap (λ (y : ℕ). digit y i) e ∙ digit_none i)
 
 -- ---- past the words
 module _ (ws : List ℕ) (i : ℕ) (l : length ws ≤ i / 64) where
-  pub past-has : holds_in ws i ≡ false
+  pub past_has : holds_in ws i ≡ false
   unfolding marked
-  past-has = zero-holds (get_or ws (i / 64) 0) (i % 64) (get_or-eq_default ws 0 l)
+  past_has = zero_holds (get_or ws (i / 64) 0) (i % 64) (get_or-eq_default ws 0 l)
 
-  pub past-add : with_number ws i ≡ ws
+  pub past_add : with_number ws i ≡ ws
   unfolding with_number
-  past-add = set_out ws (i / 64) (bit_or (get_or ws (i / 64) 0) (2 ^ (i % 64))) l
+  past_add = set_out ws (i / 64) (bit_or (get_or ws (i / 64) 0) (2 ^ (i % 64))) l
 
 -- ---- a number added
 module _ (ws : List ℕ) (i : ℕ) where
   -- the number of words stays
-  pub add-long : length (with_number ws i) ≡ length ws
+  pub add_long : length (with_number ws i) ≡ length ws
   unfolding with_number
-  add-long = length-set ws (i / 64) (bit_or (get_or ws (i / 64) 0) (2 ^ (i % 64)))
+  add_long = length-set ws (i / 64) (bit_or (get_or ws (i / 64) 0) (2 ^ (i % 64)))
 
   -- its word
   bits : i / 64 < length ws → (j : ℕ) → bit (get_or (with_number ws i) (i / 64) 0) j ≡ (bit (get_or ws (i / 64) 0) j || eqb j (i % 64))
   unfolding with_number
   bits l j =
       let x = get_or ws (i / 64) 0 in
-      ap (λ (y : ℕ). bit y j) (get_or-set_same ws (i / 64) (bit_or x (2 ^ (i % 64))) 0 l) ∙ bit-or x (2 ^ (i % 64)) j ∙ ap (λ (t : Bool). bit x j || t) (bit-pow (i % 64) j)
+      ap (λ (y : ℕ). bit y j) (get_or-set_same ws (i / 64) (bit_or x (2 ^ (i % 64))) 0 l) ∙ bit_or_lem x (2 ^ (i % 64)) j ∙ ap (λ (t : Bool). bit x j || t) (bit-pow (i % 64) j)
 
   -- it is there
-  pub has-added : i < 64 * length ws → holds_in (with_number ws i) i ≡ true
+  pub has_added : i < 64 * length ws → holds_in (with_number ws i) i ≡ true
   unfolding marked
-  has-added l =
+  has_added l =
       let x = bit (get_or ws (i / 64) 0) (i % 64) in
       bits (omega arith) (i % 64) ∙ or_comm x (eqb (i % 64) (i % 64)) ∙ ap (λ (t : Bool). t || x) (eq-eqb (i % 64) (i % 64) refl)
 
@@ -78,20 +78,20 @@ module _ (ws : List ℕ) (i : ℕ) where
       go : Dec (i / 64 < length ws) → Dec (j / 64 ≡ i / 64) → holds_in (with_number ws i) j ≡ holds_in ws j
       go (yes l) (yes e) = same_word j n l e
       go (yes l) (no q) = other_word j q
-      go (no l) e = ap (λ (us : List ℕ). holds_in us j) (past-add ws i (omega arith))
+      go (no l) e = ap (λ (us : List ℕ). holds_in us j) (past_add ws i (omega arith))
 
   -- so what was there stays
-  pub has-still : (j : ℕ) → holds_in ws j ≡ true → holds_in (with_number ws i) j ≡ true
-  has-still j h = go (ℕ_discrete j i) (dec_lt (i / 64) (length ws))
+  pub has_still : (j : ℕ) → holds_in ws j ≡ true → holds_in (with_number ws i) j ≡ true
+  has_still j h = go (ℕ_discrete j i) (dec_lt (i / 64) (length ws))
     where
       go : Dec (j ≡ i) → Dec (i / 64 < length ws) → holds_in (with_number ws i) j ≡ true
       go (no n) l = has_other j n ∙ h
-      go (yes e) (yes l) = ap (holds_in (with_number ws i)) e ∙ has-added (omega arith)
-      go (yes e) (no l) = ap (λ (us : List ℕ). holds_in us j) (past-add ws i (omega arith)) ∙ h
+      go (yes e) (yes l) = ap (holds_in (with_number ws i)) e ∙ has_added (omega arith)
+      go (yes e) (no l) = ap (λ (us : List ℕ). holds_in us j) (past_add ws i (omega arith)) ∙ h
 
 -- ---- the empty set
-pub none-words : (k w : ℕ) → get_or (none_of k) w 0 ≡ 0
-none-words k w = go (dec_lt w k)
+pub none_words : (k w : ℕ) → get_or (none_of k) w 0 ≡ 0
+none_words k w = go (dec_lt w k)
   where
     go : Dec (w < k) → get_or (none_of k) w 0 ≡ 0
     go (yes l) = get_or-replicate k w 0 0 l
@@ -99,14 +99,14 @@ none-words k w = go (dec_lt w k)
 
 pub none_has : (k i : ℕ) → holds_in (none_of k) i ≡ false
 unfolding marked
-none_has k i = zero-holds (get_or (none_of k) (i / 64) 0) (i % 64) (none-words k (i / 64))
+none_has k i = zero_holds (get_or (none_of k) (i / 64) 0) (i % 64) (none_words k (i / 64))
 
 pub none_long : (k : ℕ) → length (none_of k) ≡ k
 none_long k = length-replicate k 0
 
 -- ---- two sets of as many words with the same numbers are equal
-same-digit : (x y : ℕ) → x < 2 → y < 2 → eqb x 1 ≡ eqb y 1 → x ≡ y
-same-digit x y h k e = go (eqb y 1) refl
+same_digit : (x y : ℕ) → x < 2 → y < 2 → eqb x 1 ≡ eqb y 1 → x ≡ y
+same_digit x y h k e = go (eqb y 1) refl
   where
     go : (t : Bool) → eqb y 1 ≡ t → x ≡ y
     go true q = eqb-true x 1 (e ∙ q) ∙ sym (eqb-true y 1 q)
@@ -119,7 +119,7 @@ same_low : (x y k : ℕ) → ((i : ℕ) → i < k → bit x i ≡ bit y i) → x
 same_low x y zero f = mod-one x ∙ sym (mod-one y)
 same_low x y (suc k) f =
     more_digits x k
-    ∙ ap₂ (λ (p q : ℕ). p * 2 ^ k + q) (same-digit (digit x k) (digit y k) (digit_lt x k) (digit_lt y k) (f k (omega arith))) (same_low x y k (λ i l. f i (omega arith)))
+    ∙ ap₂ (λ (p q : ℕ). p * 2 ^ k + q) (same_digit (digit x k) (digit y k) (digit_lt x k) (digit_lt y k) (f k (omega arith))) (same_low x y k (λ i l. f i (omega arith)))
     ∙ sym (more_digits y k)
 
 pub same_numbers : (ws us : List ℕ) → length ws ≡ length us → ((w : ℕ) → w < length ws → get_or ws w 0 < 2 ^ 64) → ((w : ℕ) → w < length us → get_or us w 0 < 2 ^ 64)

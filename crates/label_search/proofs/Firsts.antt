@@ -9,18 +9,18 @@ use lib.Dec.{ltb}
 use lib.ListN.{length}
 use borrow.Author.Tests.{ltb-true, ltb-false}
 use Rattle.answers.specs.Answers.{given}
-use Rattle.answers.proofs.Laws.{given-one}
+use Rattle.answers.proofs.Laws.{given_one}
 use Rattle.ht_file.specs.Places.{image_fits, if_table}
 use Rattle.label_search.specs.Labels.{doubled, doubled_before, doubled_answer}
 use Rattle.label_search.specs.InnerSearch.{FirstBefore, FirstDoubled}
 
 module _ (img : List ℕ) (n : ℕ) where
-  before-next : (k r : ℕ) → FirstBefore img n k r → (t : Bool) → ltb r k ≡ t → (d : Bool) → doubled img n k ≡ d → FirstBefore img n (suc k) (cond t r (cond d k (suc k)))
-  before-next k r f true p d q = record { within = omega (arith, f.within); none = f.none; there = λ h. f.there (ltb-true r k p) }
-  before-next k r f false p true q =
+  before_next : (k r : ℕ) → FirstBefore img n k r → (t : Bool) → ltb r k ≡ t → (d : Bool) → doubled img n k ≡ d → FirstBefore img n (suc k) (cond t r (cond d k (suc k)))
+  before_next k r f true p d q = record { within = omega (arith, f.within); none = f.none; there = λ h. f.there (ltb-true r k p) }
+  before_next k r f false p true q =
       let e : k ≡ r = omega (arith, ltb-false r k p, f.within) in
       record { within = omega arith; none = λ b h. f.none b (omega arith); there = λ h. q }
-  before-next k r f false p false q =
+  before_next k r f false p false q =
       let e : k ≡ r = omega (arith, ltb-false r k p, f.within) in
       record { within = omega arith; none = λ b h. up_to b h (ℕ_discrete b k) e; there = λ h. absurd (omega arith) }
     where
@@ -28,14 +28,14 @@ module _ (img : List ℕ) (n : ℕ) where
       up_to b h (yes z) e = ap (doubled img n) z ∙ q
       up_to b h (no z) e = f.none b (omega (arith, z))
 
-  before-is : (k : ℕ) → FirstBefore img n k (doubled_before img n k)
+  before_is : (k : ℕ) → FirstBefore img n k (doubled_before img n k)
   unfolding doubled_before
-  before-is zero = record { within = omega arith; none = λ b h. absurd (omega arith); there = λ h. absurd (omega arith) }
-  before-is (suc k) = before-next k (doubled_before img n k) (before-is k) (ltb (doubled_before img n k) k) refl (doubled img n k) refl
+  before_is zero = record { within = omega arith; none = λ b h. absurd (omega arith); there = λ h. absurd (omega arith) }
+  before_is (suc k) = before_next k (doubled_before img n k) (before_is k) (ltb (doubled_before img n k) k) refl (doubled img n k) refl
 
   -- what the definition names is the first
   pub first_is : FirstDoubled img n (doubled_before img n n)
-  first_is = before-is n
+  first_is = before_is n
 
   -- and there is one first only
   pub first_one : (r s : ℕ) → FirstDoubled img n r → FirstDoubled img n s → r ≡ s
@@ -51,8 +51,8 @@ module _ (img : List ℕ) (n : ℕ) where
 
   -- so an answer about an image that fits is the first
   module _ (fits : image_fits n (length img) ≡ true) where
-    pub first-given : doubled_answer img n ≡ given (doubled_before img n n)
-    first-given = ap (λ (t : Bool). if_table t (given (doubled_before img n n))) fits
+    pub first_given : doubled_answer img n ≡ given (doubled_before img n n)
+    first_given = ap (λ (t : Bool). if_table t (given (doubled_before img n n))) fits
 
-    pub first-told : (r : ℕ) → given r ≡ doubled_answer img n → FirstDoubled img n r
-    first-told r e = subst (FirstDoubled img n) (sym (given-one r (doubled_before img n n) (e ∙ first-given))) first_is
+    pub first_told : (r : ℕ) → given r ≡ doubled_answer img n → FirstDoubled img n r
+    first_told r e = subst (FirstDoubled img n) (sym (given_one r (doubled_before img n n) (e ∙ first_given))) first_is

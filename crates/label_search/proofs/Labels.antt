@@ -57,18 +57,18 @@ pub record Earlier (img : List ℕ) (n : ℕ) (l : List ℕ) (k : ℕ) : Type 0 
   pub same : page_end img n bucket ≡ l
 
 module _ (img : List ℕ) (n : ℕ) (l : List ℕ) where
-  pub labelled-none : labelled img n l 0 ≡ false
+  pub labelled_none : labelled img n l 0 ≡ false
   unfolding labelled
-  labelled-none = refl
+  labelled_none = refl
 
-  pub labelled-next : (j : ℕ) → labelled img n l (j + 1) ≡ (labelled img n l j || (is_full (get_or img j 0) && same_bytes (page_end img n j) l))
+  pub labelled_next : (j : ℕ) → labelled img n l (j + 1) ≡ (labelled img n l j || (is_full (get_or img j 0) && same_bytes (page_end img n j) l))
   unfolding labelled
-  labelled-next j = ap (labelled img n l) (add-one j)
+  labelled_next j = ap (labelled img n l) (add-one j)
 
-  pub labelled-told : (k : ℕ) → labelled img n l k ≡ true → Earlier img n l k
+  pub labelled_told : (k : ℕ) → labelled img n l k ≡ true → Earlier img n l k
   unfolding labelled
-  labelled-told zero e = absurd (true≢false (sym e))
-  labelled-told (suc k) e = go (labelled img n l k) refl (labelled-told k) e
+  labelled_told zero e = absurd (true≢false (sym e))
+  labelled_told (suc k) e = go (labelled img n l k) refl (labelled_told k) e
     where
       go : (t : Bool) → labelled img n l k ≡ t → (labelled img n l k ≡ true → Earlier img n l k) → (t || (is_full (get_or img k 0) && same_bytes (page_end img n k) l)) ≡ true → Earlier img n l (suc k)
       go true p rec q = let r = rec p in record { bucket = r.bucket; before = omega (arith, r.before); full = r.full; same = r.same }
@@ -81,19 +81,19 @@ module _ (img : List ℕ) (n : ℕ) (l : List ℕ) where
   labelled_by zero j h f s = absurd (omega arith)
   labelled_by (suc k) j h f s = go (ℕ_discrete j k) (λ (d : j < k). labelled_by k j d f s)
     where
-      or-true : (a : Bool) → (a || true) ≡ true
-      or-true true = refl
-      or-true false = refl
+      or_true : (a : Bool) → (a || true) ≡ true
+      or_true true = refl
+      or_true false = refl
 
       go : Dec (j ≡ k) → (j < k → labelled img n l k ≡ true) → (labelled img n l k || (is_full (get_or img k 0) && same_bytes (page_end img n k) l)) ≡ true
       go (yes e) rec =
           let a : is_full (get_or img k 0) ≡ true = ap (λ (i : ℕ). is_full (get_or img i 0)) (sym e) ∙ f in
           let b : same_bytes (page_end img n k) l ≡ true = equal_same (page_end img n k) l (ap (page_end img n) (sym e) ∙ s) in
-          ap (λ (t : Bool). labelled img n l k || t) (ap₂ ◌&&◌ a b) ∙ or-true (labelled img n l k)
+          ap (λ (t : Bool). labelled img n l k || t) (ap₂ ◌&&◌ a b) ∙ or_true (labelled img n l k)
       go (no e) rec = ap (λ (t : Bool). t || (is_full (get_or img k 0) && same_bytes (page_end img n k) l)) (rec (omega arith))
 
 -- a doubled bucket is full and has an earlier one
 pub doubled_told : (img : List ℕ) (n b : ℕ) → doubled img n b ≡ true → (is_full (get_or img b 0) ≡ true) × Earlier img n (page_end img n b) b
 doubled_told img n b e =
     let p = both_hold (is_full (get_or img b 0)) (labelled img n (page_end img n b) b) e in
-    (p.0, labelled-told img n (page_end img n b) b p.1)
+    (p.0, labelled_told img n (page_end img n b) b p.1)

@@ -17,13 +17,13 @@ use Rattle.label_search.specs.Labels.{doubled}
 use Rattle.label_search.specs.InnerSearch.{FirstDoubled}
 use Rattle.label_search.specs.InnerFilter.{key_of, key_at, class_of, with_key, has_key, of_class, bucket_of_class, KeysOf, Keeps, Noted, Suspected, Marking, Sought, Seeking, FirstOfClass}
 use Rattle.label_search.proofs.Labels.{doubled_told}
-use Rattle.label_search.proofs.Filters.{key-long, key-stays, key-added}
+use Rattle.label_search.proofs.Filters.{key_long, key_stays, key_added}
 
 pub keeps_self : (f : List ℕ) → length f ≡ 16384 → Keeps f f
 keeps_self f l = (l, λ key e. e)
 
 pub keeps_more : (f : List ℕ) (key : ℕ) → length f ≡ 16384 → Keeps f (with_key f key)
-keeps_more f key l = (key-long f key l, key-stays f key l)
+keeps_more f key l = (key_long f key l, key_stays f key l)
 
 -- ---- the keys of a block, one bucket more
 pub keys_more : (img : List ℕ) (n from b : ℕ) (keys : List ℕ) → from ≤ b → b < from + 16 → KeysOf img n from b keys → KeysOf img n from (b + 1) (set keys (b - from) (key_at img n b))
@@ -47,147 +47,147 @@ clash p q = absurd (true≢false (sym p ∙ q))
 
 module _ (classes class tag key : ℕ) where
   -- ---- a bucket of the first pass
-  module _ (seen suspects : List ℕ) (seen-long : length seen ≡ 16384) (suspects-long : length suspects ≡ 16384) where
-    pub noted-suspect : has_key seen key ≡ true → Noted classes class tag key seen suspects seen (with_key suspects key) true
-    noted-suspect e =
+  module _ (seen suspects : List ℕ) (seen_long : length seen ≡ 16384) (suspects_long : length suspects ≡ 16384) where
+    pub noted_suspect : has_key seen key ≡ true → Noted classes class tag key seen suspects seen (with_key suspects key) true
+    noted_suspect e =
         record {
-          seen-keeps = keeps_self seen seen-long;
-          suspects-keeps = keeps_more suspects key suspects-long;
+          seen_keeps = keeps_self seen seen_long;
+          suspects_keeps = keeps_more suspects key suspects_long;
           is_seen = λ o. e;
-          suspected = λ o h. (key-added suspects key suspects-long, refl);
+          suspected = λ o h. (key_added suspects key suspects_long, refl);
         }
 
-    pub noted-new : has_key seen key ≡ false → Noted classes class tag key seen suspects (with_key seen key) suspects false
-    noted-new e =
+    pub noted_new : has_key seen key ≡ false → Noted classes class tag key seen suspects (with_key seen key) suspects false
+    noted_new e =
         record {
-          seen-keeps = keeps_more seen key seen-long;
-          suspects-keeps = keeps_self suspects suspects-long;
-          is_seen = λ o. key-added seen key seen-long;
+          seen_keeps = keeps_more seen key seen_long;
+          suspects_keeps = keeps_self suspects suspects_long;
+          is_seen = λ o. key_added seen key seen_long;
           suspected = λ o h. clash h e;
         }
 
     pub noted_other : of_class classes class tag key ≡ false → Noted classes class tag key seen suspects seen suspects false
     noted_other e =
         record {
-          seen-keeps = keeps_self seen seen-long;
-          suspects-keeps = keeps_self suspects suspects-long;
+          seen_keeps = keeps_self seen seen_long;
+          suspects_keeps = keeps_self suspects suspects_long;
           is_seen = λ o. clash o e;
           suspected = λ o h. clash o e;
         }
 
   -- ---- a bucket of the second
-  module _ (suspects seen : List ℕ) (seen-long : length seen ≡ 16384) where
-    pub sought-again : has_key seen key ≡ true → Sought classes class tag key suspects seen seen true
-    sought-again e =
-        record { seen-keeps = keeps_self seen seen-long; is_seen = λ o s. e; passed = λ q. absurd (true≢false q) }
+  module _ (suspects seen : List ℕ) (seen_long : length seen ≡ 16384) where
+    pub sought_again : has_key seen key ≡ true → Sought classes class tag key suspects seen seen true
+    sought_again e =
+        record { seen_keeps = keeps_self seen seen_long; is_seen = λ o s. e; passed = λ q. absurd (true≢false q) }
 
-    pub sought-new : has_key seen key ≡ false → Sought classes class tag key suspects seen (with_key seen key) false
-    sought-new e =
-        record { seen-keeps = keeps_more seen key seen-long; is_seen = λ o s. key-added seen key seen-long; passed = λ q o s. e }
+    pub sought_new : has_key seen key ≡ false → Sought classes class tag key suspects seen (with_key seen key) false
+    sought_new e =
+        record { seen_keeps = keeps_more seen key seen_long; is_seen = λ o s. key_added seen key seen_long; passed = λ q o s. e }
 
-    pub sought-clear : has_key suspects key ≡ false → Sought classes class tag key suspects seen seen false
-    sought-clear e = record { seen-keeps = keeps_self seen seen-long; is_seen = λ o s. clash s e; passed = λ q o s. clash s e }
+    pub sought_clear : has_key suspects key ≡ false → Sought classes class tag key suspects seen seen false
+    sought_clear e = record { seen_keeps = keeps_self seen seen_long; is_seen = λ o s. clash s e; passed = λ q o s. clash s e }
 
-    pub sought-other : of_class classes class tag key ≡ false → Sought classes class tag key suspects seen seen false
-    sought-other e = record { seen-keeps = keeps_self seen seen-long; is_seen = λ o s. clash o e; passed = λ q o s. clash o e }
+    pub sought_other : of_class classes class tag key ≡ false → Sought classes class tag key suspects seen seen false
+    sought_other e = record { seen_keeps = keeps_self seen seen_long; is_seen = λ o s. clash o e; passed = λ q o s. clash o e }
 
 -- ---- the passes
 module _ (img : List ℕ) (n classes class : ℕ) where
-  full-of-class : (b : ℕ) → is_full (get_or img b 0) ≡ true → class_of (key_at img n b) classes ≡ class → bucket_of_class img n classes class b ≡ true
-  full-of-class b f e = ap₂ ◌&&◌ f (eq-eqb (class_of (key_at img n b) classes) class e)
+  full_of_class : (b : ℕ) → is_full (get_or img b 0) ≡ true → class_of (key_at img n b) classes ≡ class → bucket_of_class img n classes class b ≡ true
+  full_of_class b f e = ap₂ ◌&&◌ f (eq-eqb (class_of (key_at img n b) classes) class e)
 
-  pub mark-start : (seen suspects : List ℕ) → length seen ≡ 16384 → length suspects ≡ 16384 → Marking img n classes class 0 seen suspects false
-  mark-start seen suspects l m =
-      record { seen-long = l; suspects-long = m; in-seen = λ j h. absurd (omega arith); in-suspects = λ j h. absurd (omega arith) }
+  pub mark_start : (seen suspects : List ℕ) → length seen ≡ 16384 → length suspects ≡ 16384 → Marking img n classes class 0 seen suspects false
+  mark_start seen suspects l m =
+      record { seen_long = l; suspects_long = m; in_seen = λ j h. absurd (omega arith); in_suspects = λ j h. absurd (omega arith) }
 
   -- the key that was read for bucket b, where it is full, is its label's
   module _ (b key : ℕ) (read : is_full (get_or img b 0) ≡ true → key ≡ key_at img n b) where
     -- so what is known of the key where the bucket is of the class, is known of the label's
-    of-class : bucket_of_class img n classes class b ≡ true → (of_class classes class (get_or img b 0) key ≡ true) × (key ≡ key_at img n b)
-    of-class o =
+    of_class_lem : bucket_of_class img n classes class b ≡ true → (of_class classes class (get_or img b 0) key ≡ true) × (key ≡ key_at img n b)
+    of_class_lem o =
         let k = read (both_hold (is_full (get_or img b 0)) (eqb (class_of (key_at img n b) classes) class) o).0 in
         (ap (of_class classes class (get_or img b 0)) k ∙ o, k)
 
-    pub mark-turn : (seen suspects seen' suspects' : List ℕ) (any any' r : Bool) → Marking img n classes class b seen suspects any
+    pub mark_turn : (seen suspects seen' suspects' : List ℕ) (any any' r : Bool) → Marking img n classes class b seen suspects any
         → Noted classes class (get_or img b 0) key seen suspects seen' suspects' r → (any ≡ true → any' ≡ true) → (r ≡ true → any' ≡ true) → Marking img n classes class (b + 1) seen' suspects' any'
-    mark-turn seen suspects seen' suspects' any any' r m t p q =
+    mark_turn seen suspects seen' suspects' any any' r m t p q =
         record {
-          seen-long = t.seen-keeps.0;
-          suspects-long = t.suspects-keeps.0;
-          in-seen = λ j h o. sees j h o (ℕ_discrete j b);
-          in-suspects = λ j h e d. suspects-it j h e d (ℕ_discrete j b);
+          seen_long = t.seen_keeps.0;
+          suspects_long = t.suspects_keeps.0;
+          in_seen = λ j h o. sees j h o (ℕ_discrete j b);
+          in_suspects = λ j h e d. suspects_it j h e d (ℕ_discrete j b);
         }
       where
-        sees-it : bucket_of_class img n classes class b ≡ true → has_key seen' (key_at img n b) ≡ true
-        sees-it o = let c = of-class o in ap (has_key seen') (sym c.1) ∙ t.is_seen c.0
+        sees_it : bucket_of_class img n classes class b ≡ true → has_key seen' (key_at img n b) ≡ true
+        sees_it o = let c = of_class_lem o in ap (has_key seen') (sym c.1) ∙ t.is_seen c.0
 
         sees : (j : ℕ) → j < b + 1 → bucket_of_class img n classes class j ≡ true → Dec (j ≡ b) → has_key seen' (key_at img n j) ≡ true
-        sees j h o (yes e) = ap (λ (i : ℕ). has_key seen' (key_at img n i)) e ∙ sees-it (ap (bucket_of_class img n classes class) (sym e) ∙ o)
-        sees j h o (no e) = t.seen-keeps.1 (key_at img n j) (m.in-seen j (omega arith) o)
+        sees j h o (yes e) = ap (λ (i : ℕ). has_key seen' (key_at img n i)) e ∙ sees_it (ap (bucket_of_class img n classes class) (sym e) ∙ o)
+        sees j h o (no e) = t.seen_keeps.1 (key_at img n j) (m.in_seen j (omega arith) o)
 
         -- the bucket itself: an equal label before it has set its cells
-        at-it : class_of (key_at img n b) classes ≡ class → doubled img n b ≡ true → (has_key suspects' (key_at img n b) ≡ true) × (any' ≡ true)
-        at-it e d =
+        at_it : class_of (key_at img n b) classes ≡ class → doubled img n b ≡ true → (has_key suspects' (key_at img n b) ≡ true) × (any' ≡ true)
+        at_it e d =
             let told = doubled_told img n b d in
             let i = told.1 in
             let same : key_at img n i.bucket ≡ key_at img n b = ap key_of i.same in
-            let before = m.in-seen i.bucket i.before (full-of-class i.bucket i.full (ap (λ (k : ℕ). class_of k classes) same ∙ e)) in
-            let c = of-class (full-of-class b told.0 e) in
+            let before = m.in_seen i.bucket i.before (full_of_class i.bucket i.full (ap (λ (k : ℕ). class_of k classes) same ∙ e)) in
+            let c = of_class_lem (full_of_class b told.0 e) in
             let s = t.suspected c.0 (ap (has_key seen) (c.1 ∙ sym same) ∙ before) in
             (ap (has_key suspects') (sym c.1) ∙ s.0, q s.1)
 
-        suspects-it : (j : ℕ) → j < b + 1 → class_of (key_at img n j) classes ≡ class → doubled img n j ≡ true → Dec (j ≡ b) → (has_key suspects' (key_at img n j) ≡ true) × (any' ≡ true)
-        suspects-it j h e d (yes z) =
-            let s = at-it (ap (λ (i : ℕ). class_of (key_at img n i) classes) (sym z) ∙ e) (ap (doubled img n) (sym z) ∙ d) in
+        suspects_it : (j : ℕ) → j < b + 1 → class_of (key_at img n j) classes ≡ class → doubled img n j ≡ true → Dec (j ≡ b) → (has_key suspects' (key_at img n j) ≡ true) × (any' ≡ true)
+        suspects_it j h e d (yes z) =
+            let s = at_it (ap (λ (i : ℕ). class_of (key_at img n i) classes) (sym z) ∙ e) (ap (doubled img n) (sym z) ∙ d) in
             (ap (λ (i : ℕ). has_key suspects' (key_at img n i)) z ∙ s.0, s.1)
-        suspects-it j h e d (no z) =
-            let s = m.in-suspects j (omega arith) e d in
-            (t.suspects-keeps.1 (key_at img n j) s.0, p s.1)
+        suspects_it j h e d (no z) =
+            let s = m.in_suspects j (omega arith) e d in
+            (t.suspects_keeps.1 (key_at img n j) s.0, p s.1)
 
-    pub seek-turn : (end : ℕ) (suspects seen seen' : List ℕ) (r : Bool) → Suspected img n end classes class suspects true → b < end → Seeking img n classes class suspects b seen
+    pub seek_turn : (end : ℕ) (suspects seen seen' : List ℕ) (r : Bool) → Suspected img n end classes class suspects true → b < end → Seeking img n classes class suspects b seen
         → Sought classes class (get_or img b 0) key suspects seen seen' r → (r ≡ true → doubled img n b ≡ false) → Seeking img n classes class suspects (b + 1) seen'
-    seek-turn end suspects seen seen' r all l m t searched =
+    seek_turn end suspects seen seen' r all l m t searched =
         record {
-          long = t.seen-keeps.0;
-          in-seen = λ j h o s. sees j h o s (ℕ_discrete j b);
-          none = λ j h e. not-twice j h e (ℕ_discrete j b);
+          long = t.seen_keeps.0;
+          in_seen = λ j h o s. sees j h o s (ℕ_discrete j b);
+          none = λ j h e. not_twice j h e (ℕ_discrete j b);
         }
       where
-        sees-it : bucket_of_class img n classes class b ≡ true → has_key suspects (key_at img n b) ≡ true → has_key seen' (key_at img n b) ≡ true
-        sees-it o s = let c = of-class o in ap (has_key seen') (sym c.1) ∙ t.is_seen c.0 (ap (has_key suspects) c.1 ∙ s)
+        sees_it : bucket_of_class img n classes class b ≡ true → has_key suspects (key_at img n b) ≡ true → has_key seen' (key_at img n b) ≡ true
+        sees_it o s = let c = of_class_lem o in ap (has_key seen') (sym c.1) ∙ t.is_seen c.0 (ap (has_key suspects) c.1 ∙ s)
 
         sees : (j : ℕ) → j < b + 1 → bucket_of_class img n classes class j ≡ true → has_key suspects (key_at img n j) ≡ true → Dec (j ≡ b) → has_key seen' (key_at img n j) ≡ true
         sees j h o s (yes e) =
-            ap (λ (i : ℕ). has_key seen' (key_at img n i)) e ∙ sees-it (ap (bucket_of_class img n classes class) (sym e) ∙ o) (ap (λ (i : ℕ). has_key suspects (key_at img n i)) (sym e) ∙ s)
-        sees j h o s (no e) = t.seen-keeps.1 (key_at img n j) (m.in-seen j (omega arith) o s)
+            ap (λ (i : ℕ). has_key seen' (key_at img n i)) e ∙ sees_it (ap (bucket_of_class img n classes class) (sym e) ∙ o) (ap (λ (i : ℕ). has_key suspects (key_at img n i)) (sym e) ∙ s)
+        sees j h o s (no e) = t.seen_keeps.1 (key_at img n j) (m.in_seen j (omega arith) o s)
 
         -- a doubled bucket of the class is searched for
-        at-it : class_of (key_at img n b) classes ≡ class → (x : Bool) → doubled img n b ≡ x → (y : Bool) → r ≡ y → doubled img n b ≡ false
-        at-it e false d y q = d
-        at-it e true d true q = searched q
-        at-it e true d false q =
+        at_it : class_of (key_at img n b) classes ≡ class → (x : Bool) → doubled img n b ≡ x → (y : Bool) → r ≡ y → doubled img n b ≡ false
+        at_it e false d y q = d
+        at_it e true d true q = searched q
+        at_it e true d false q =
             let told = doubled_told img n b d in
             let i = told.1 in
             let same : key_at img n i.bucket ≡ key_at img n b = ap key_of i.same in
             let s = (all b l e d).0 in
-            let before = m.in-seen i.bucket i.before (full-of-class i.bucket i.full (ap (λ (k : ℕ). class_of k classes) same ∙ e)) (ap (has_key suspects) same ∙ s) in
-            let c = of-class (full-of-class b told.0 e) in
+            let before = m.in_seen i.bucket i.before (full_of_class i.bucket i.full (ap (λ (k : ℕ). class_of k classes) same ∙ e)) (ap (has_key suspects) same ∙ s) in
+            let c = of_class_lem (full_of_class b told.0 e) in
             clash (ap (has_key seen) (c.1 ∙ sym same) ∙ before) (t.passed q c.0 (ap (has_key suspects) c.1 ∙ s))
 
-        not-twice : (j : ℕ) → j < b + 1 → class_of (key_at img n j) classes ≡ class → Dec (j ≡ b) → doubled img n j ≡ false
-        not-twice j h e (yes z) = ap (doubled img n) z ∙ at-it (ap (λ (i : ℕ). class_of (key_at img n i) classes) (sym z) ∙ e) (doubled img n b) refl r refl
-        not-twice j h e (no z) = m.none j (omega arith) e
+        not_twice : (j : ℕ) → j < b + 1 → class_of (key_at img n j) classes ≡ class → Dec (j ≡ b) → doubled img n j ≡ false
+        not_twice j h e (yes z) = ap (doubled img n) z ∙ at_it (ap (λ (i : ℕ). class_of (key_at img n i) classes) (sym z) ∙ e) (doubled img n b) refl r refl
+        not_twice j h e (no z) = m.none j (omega arith) e
 
-  pub seek-start : (suspects seen : List ℕ) → length seen ≡ 16384 → Seeking img n classes class suspects 0 seen
-  seek-start suspects seen l = record { long = l; in-seen = λ j h. absurd (omega arith); none = λ j h. absurd (omega arith) }
+  pub seek_start : (suspects seen : List ℕ) → length seen ≡ 16384 → Seeking img n classes class suspects 0 seen
+  seek_start suspects seen l = record { long = l; in_seen = λ j h. absurd (omega arith); none = λ j h. absurd (omega arith) }
 
   -- what is suspected up to an end is up to an earlier one
-  pub suspected-less : (end to : ℕ) (suspects : List ℕ) (any : Bool) → to ≤ end → Suspected img n end classes class suspects any → Suspected img n to classes class suspects any
-  suspected-less end to suspects any l all b h = all b (omega arith)
+  pub suspected_less : (end to : ℕ) (suspects : List ℕ) (any : Bool) → to ≤ end → Suspected img n end classes class suspects any → Suspected img n to classes class suspects any
+  suspected_less end to suspects any l all b h = all b (omega arith)
 
   -- no suspects, nothing doubled
-  pub none-suspected : (end : ℕ) (suspects : List ℕ) → Suspected img n end classes class suspects false → FirstOfClass img n end classes class end
-  none-suspected end suspects all =
+  pub none_suspected : (end : ℕ) (suspects : List ℕ) → Suspected img n end classes class suspects false → FirstOfClass img n end classes class end
+  none_suspected end suspects all =
       record { within = omega arith; none = λ b h e. go b h e (doubled img n b) refl; there = λ h. absurd (omega arith) }
     where
       go : (b : ℕ) → b < end → class_of (key_at img n b) classes ≡ class → (r : Bool) → doubled img n b ≡ r → doubled img n b ≡ false
@@ -203,11 +203,11 @@ module _ (img : List ℕ) (n classes : ℕ) where
     pub none : (b : ℕ) → b < first → class_of (key_at img n b) classes < class → doubled img n b ≡ false
     pub there : first < n → doubled img n first ≡ true
 
-  pub class-start : Classing 0 n
-  class-start = record { few = omega arith; within = omega arith; none = λ b h e. absurd (omega arith); there = λ h. absurd (omega arith) }
+  pub class_start : Classing 0 n
+  class_start = record { few = omega arith; within = omega arith; none = λ b h e. absurd (omega arith); there = λ h. absurd (omega arith) }
 
-  pub class-turn : (class first r : ℕ) → class < classes → Classing class first → FirstOfClass img n first classes class r → Classing (class + 1) r
-  class-turn class first r l m t =
+  pub class_turn : (class first r : ℕ) → class < classes → Classing class first → FirstOfClass img n first classes class r → Classing (class + 1) r
+  class_turn class first r l m t =
       record {
         few = omega arith;
         within = omega (arith, t.within, m.within);
@@ -223,6 +223,6 @@ module _ (img : List ℕ) (n classes : ℕ) where
       found (yes q) h = ap (doubled img n) q ∙ m.there (omega (arith, q))
       found (no q) h = t.there (omega (arith, t.within, q))
 
-  pub class-end : (class first : ℕ) → 0 < classes → classes ≤ class → Classing class first → FirstDoubled img n first
-  class-end class first s l m =
+  pub class_end : (class first : ℕ) → 0 < classes → classes ≤ class → Classing class first → FirstDoubled img n first
+  class_end class first s l m =
       record { within = m.within; none = λ b h. m.none b h (omega (arith, mod-lt (key_at img n b / 1152921504606846976) {m = classes} s)); there = m.there }

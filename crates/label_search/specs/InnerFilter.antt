@@ -66,8 +66,8 @@ Keeps f g = (length g ≡ 16384) × ((key : ℕ) → has_key f key ≡ true → 
 
 -- a bucket in the first pass: its key is then seen; where it was before, it is a suspect (`r`)
 pub record Noted (classes class tag key : ℕ) (seen suspects seen' suspects' : List ℕ) (r : Bool) : Type 0 where
-  pub seen-keeps : Keeps seen seen'
-  pub suspects-keeps : Keeps suspects suspects'
+  pub seen_keeps : Keeps seen seen'
+  pub suspects_keeps : Keeps suspects suspects'
   pub is_seen : of_class classes class tag key ≡ true → has_key seen' key ≡ true
   pub suspected : of_class classes class tag key ≡ true → has_key seen key ≡ true → (has_key suspects' key ≡ true) × (r ≡ true)
 
@@ -78,14 +78,14 @@ Suspected img n end classes class suspects any =
 
 -- how far the first pass is at bucket b
 pub record Marking (img : List ℕ) (n classes class b : ℕ) (seen suspects : List ℕ) (any : Bool) : Type 0 where
-  pub seen-long : length seen ≡ 16384
-  pub suspects-long : length suspects ≡ 16384
-  pub in-seen : (j : ℕ) → j < b → bucket_of_class img n classes class j ≡ true → has_key seen (key_at img n j) ≡ true
-  pub in-suspects : Suspected img n b classes class suspects any
+  pub seen_long : length seen ≡ 16384
+  pub suspects_long : length suspects ≡ 16384
+  pub in_seen : (j : ℕ) → j < b → bucket_of_class img n classes class j ≡ true → has_key seen (key_at img n j) ≡ true
+  pub in_suspects : Suspected img n b classes class suspects any
 
 -- a bucket in the second pass: a suspect's key is then seen; where it was before, its label is to be searched for (`r`)
 pub record Sought (classes class tag key : ℕ) (suspects seen seen' : List ℕ) (r : Bool) : Type 0 where
-  pub seen-keeps : Keeps seen seen'
+  pub seen_keeps : Keeps seen seen'
   pub is_seen : of_class classes class tag key ≡ true → has_key suspects key ≡ true → has_key seen' key ≡ true
   pub passed : r ≡ false → of_class classes class tag key ≡ true → has_key suspects key ≡ true → has_key seen key ≡ false
 
@@ -96,7 +96,7 @@ NoneOfClass img n classes class b = (j : ℕ) → j < b → class_of (key_at img
 -- how far the second pass is at bucket b
 pub record Seeking (img : List ℕ) (n classes class : ℕ) (suspects : List ℕ) (b : ℕ) (seen : List ℕ) : Type 0 where
   pub long : length seen ≡ 16384
-  pub in-seen : (j : ℕ) → j < b → bucket_of_class img n classes class j ≡ true → has_key suspects (key_at img n j) ≡ true → has_key seen (key_at img n j) ≡ true
+  pub in_seen : (j : ℕ) → j < b → bucket_of_class img n classes class j ≡ true → has_key suspects (key_at img n j) ≡ true → has_key seen (key_at img n j) ≡ true
   pub none : NoneOfClass img n classes class b
 
 -- the second pass over some buckets up to `to`: a doubled one, or none

@@ -96,8 +96,8 @@ count_agree k ts us zero h = refl
 count_agree k ts us (suc n) h =
     ap₂ (λ (c t : ℕ). c + one (is_kind k (kind_of t))) (count_agree k ts us n (λ i l. h i (omega arith))) (h n (le_refl (suc n)))
 
-pub count-set_past : (k : Kind) (ts : List ℕ) (b t n : ℕ) → n ≤ b → count_of k (set ts b t) n ≡ count_of k ts n
-count-set_past k ts b t n l = count_agree k (set ts b t) ts n (λ i j. get_or-set_other ts b i t 0 (λ e. absurd (omega arith)))
+pub count_set_past : (k : Kind) (ts : List ℕ) (b t n : ℕ) → n ≤ b → count_of k (set ts b t) n ≡ count_of k ts n
+count_set_past k ts b t n l = count_agree k (set ts b t) ts n (λ i j. get_or-set_other ts b i t 0 (λ e. absurd (omega arith)))
 
 -- writing one tag takes one from its old kind and adds one to its new
 pub count_set : (k : Kind) (ts : List ℕ) (b t n : ℕ) → b < n → b < length ts
@@ -114,7 +114,7 @@ count_set k ts b t (suc n) l m = go (ℕ_discrete b n) (λ (d : b < n). count_se
     go (yes e) rec =
         let new = ap counts (ap (λ (i : ℕ). get_or (set ts b t) i 0) (sym e) ∙ get_or-set_same ts b t 0 m) in
         let old = ap (λ (i : ℕ). counts (get_or ts i 0)) e in
-        omega (arith, new, old, count-set_past k ts b t n (omega arith))
+        omega (arith, new, old, count_set_past k ts b t n (omega arith))
     go (no e) rec = omega (arith, rec (omega arith), ap counts (get_or-set_other ts b n t 0 (λ q. e (sym q))))
 
 -- a tag of the kind among them
@@ -135,5 +135,5 @@ pub padding_all : (ts : List ℕ) (n : ℕ) → ((i : ℕ) → n + i < length ts
 padding_all ts n h = zeros_all (drop n ts) (λ i l. get_or-drop n ts i 0 ∙ h i (omega (arith, length-drop n ts)))
 
 -- a bucket's tag is no padding
-pub padding-set : (ts : List ℕ) (n b t : ℕ) → b < n → padding_empty (set ts b t) n ≡ padding_empty ts n
-padding-set ts n b t l = ap all_zero (drop-set-lt n ts b t l)
+pub padding_set : (ts : List ℕ) (n b t : ℕ) → b < n → padding_empty (set ts b t) n ≡ padding_empty ts n
+padding_set ts n b t l = ap all_zero (drop-set-lt n ts b t l)

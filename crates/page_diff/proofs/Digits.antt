@@ -99,11 +99,11 @@ ones_more x n =
     ∙ ap (λ (m : ℕ). m + ones (x % 2 ^ n)) (ones_bit (digit x n) (digit_lt x n))
 
 -- no digit set below k: the remainder is 0
-pub none-set : (x k : ℕ) → ((i : ℕ) → i < k → digit x i ≡ 0) → x % 2 ^ k ≡ 0
-none-set x zero h = omega arith
-none-set x (suc k) h =
+pub none_set : (x k : ℕ) → ((i : ℕ) → i < k → digit x i ≡ 0) → x % 2 ^ k ≡ 0
+none_set x zero h = omega arith
+none_set x (suc k) h =
     more_digits x k
-    ∙ ap₂ (λ (p q : ℕ). p * 2 ^ k + q) (h k (omega arith)) (none-set x k (λ i l. h i (omega arith)))
+    ∙ ap₂ (λ (p q : ℕ). p * 2 ^ k + q) (h k (omega arith)) (none_set x k (λ i l. h i (omega arith)))
     ∙ omega arith
 
 -- `count_trailing_zeros k x` is the place of the lowest set digit
@@ -129,11 +129,11 @@ lowest zero x = record { within = zero-le; below = λ i p. absurd (omega arith);
 lowest (suc k) x = lowest_under k x (x % 2) (count_trailing_zeros k (x / 2)) refl (omega arith) (lowest k (x / 2))
 
 -- a number of k digits that is not 0 has one set
-pub lowest-found : (k x : ℕ) → x < 2 ^ k → (x ≡ 0 → ⊥) → count_trailing_zeros k x < k
-lowest-found k x h f = go (dec_le k (count_trailing_zeros k x))
+pub lowest_found : (k x : ℕ) → x < 2 ^ k → (x ≡ 0 → ⊥) → count_trailing_zeros k x < k
+lowest_found k x h f = go (dec_le k (count_trailing_zeros k x))
   where
     go : Dec (k ≤ count_trailing_zeros k x) → count_trailing_zeros k x < k
-    go (yes p) = absurd (f (sym (mod-eq_of_lt h) ∙ none-set x k (λ i l. (lowest k x).below i (lt_of_lt_of_le l p))))
+    go (yes p) = absurd (f (sym (mod-eq_of_lt h) ∙ none_set x k (λ i l. (lowest k x).below i (lt_of_lt_of_le l p))))
     go (no n) = lt_of_not-le n
 
 -- ---- `x & (x - 1)` drops the lowest set digit
@@ -141,7 +141,7 @@ lowest-found k x h f = go (dec_le k (count_trailing_zeros k x))
 lowest_part : (x t : ℕ) → ((i : ℕ) → i < t → digit x i ≡ 0) → digit x t ≡ 1 → x ≡ x / 2 ^ suc t * 2 ^ suc t + 2 ^ t
 lowest_part x t h e =
     sym (split x (suc t))
-    ∙ ap (λ (n : ℕ). x / 2 ^ suc t * 2 ^ suc t + n) (more_digits x t ∙ ap₂ (λ (p q : ℕ). p * 2 ^ t + q) e (none-set x t h) ∙ (let z : 1 * 2 ^ t + 0 ≡ 2 ^ t = omega arith in z))
+    ∙ ap (λ (n : ℕ). x / 2 ^ suc t * 2 ^ suc t + n) (more_digits x t ∙ ap₂ (λ (p q : ℕ). p * 2 ^ t + q) e (none_set x t h) ∙ (let z : 1 * 2 ^ t + 0 ≡ 2 ^ t = omega arith in z))
 
 pub drop_lowest : (x t : ℕ) → ((i : ℕ) → i < t → digit x i ≡ 0) → digit x t ≡ 1 → bit_and x (x - 1) ≡ x / 2 ^ suc t * 2 ^ suc t
 drop_lowest x t h e =

@@ -33,8 +33,8 @@ off e = ap (λ (n : ℕ). eqb n 1) e
 pub on : {x : ℕ} → x ≡ 1 → eqb x 1 ≡ true
 on e = ap (λ (n : ℕ). eqb n 1) e
 
-digit-one : (x i : ℕ) → digit x i ≡ one (bit x i)
-digit-one x i = go (digit x i) (digit_lt x i)
+digit_one : (x i : ℕ) → digit x i ≡ one (bit x i)
+digit_one x i = go (digit x i) (digit_lt x i)
   where
     go : (d : ℕ) → d < 2 → d ≡ one (eqb d 1)
     go zero h = refl
@@ -50,8 +50,8 @@ max_bit (suc zero) (suc zero) h k = refl
 max_bit (suc zero) (suc (suc y)) h k = absurd (omega arith)
 max_bit (suc (suc x)) y h k = absurd (omega arith)
 
-pub bit-or : (a b i : ℕ) → bit (bit_or a b) i ≡ (bit a i || bit b i)
-bit-or a b i = ap (λ (n : ℕ). eqb n 1) (digit_or a b i) ∙ max_bit (digit a i) (digit b i) (digit_lt a i) (digit_lt b i)
+pub bit_or_lem : (a b i : ℕ) → bit (bit_or a b) i ≡ (bit a i || bit b i)
+bit_or_lem a b i = ap (λ (n : ℕ). eqb n 1) (digit_or a b i) ∙ max_bit (digit a i) (digit b i) (digit_lt a i) (digit_lt b i)
 
 pub bit-pow : (i j : ℕ) → bit (2 ^ i) j ≡ eqb j i
 bit-pow i j = go (dec_le i j) (dec_le j i)
@@ -64,11 +64,11 @@ bit-pow i j = go (dec_le i j) (dec_le j i)
     go (no p) q = off (digit-pow_below i j (lt_of_not-le p)) ∙ sym (ne_eqb j i (λ e. omega arith))
 
 -- `x | 1 << i` at 64 bits
-pub bit-set : (x i j : ℕ) → i < 64 → bit (bit_or x (1 * 2 ^ i % 2 ^ 64)) j ≡ (eqb j i || bit x j)
-bit-set x i j h =
+pub bit_set : (x i j : ℕ) → i < 64 → bit (bit_or x (1 * 2 ^ i % 2 ^ 64)) j ≡ (eqb j i || bit x j)
+bit_set x i j h =
     let e : 1 * 2 ^ i ≡ 2 ^ i = omega arith in
     ap (λ (n : ℕ). bit (bit_or x n) j) (mod-eq_of_lt (subst (λ (n : ℕ). n < 2 ^ 64) (sym e) (pow-lt h)) ∙ e)
-    ∙ bit-or x (2 ^ i) j ∙ or_comm (bit x j) (bit (2 ^ i) j) ∙ ap (λ (b : Bool). b || bit x j) (bit-pow i j)
+    ∙ bit_or_lem x (2 ^ i) j ∙ or_comm (bit x j) (bit (2 ^ i) j) ∙ ap (λ (b : Bool). b || bit x j) (bit-pow i j)
 
 -- `x & 0x7fff_ffff_ffff_ffff`, at a bit of the word
 pub bit-drop : (x j : ℕ) → j < 64 → bit (bit_and x (2 ^ 63 - 1)) j ≡ (bit x j && not (eqb j 63))
@@ -104,7 +104,7 @@ unfolding word_of
 word_by_bits m x from zero h = mod-one x
 word_by_bits m x from (suc n) h =
     more_digits x n
-    ∙ ap₂ (λ (p q : ℕ). p * 2 ^ n + q) (digit-one x n ∙ ap one (h n (omega arith))) (word_by_bits m x from n (λ i l. h i (omega arith)))
+    ∙ ap₂ (λ (p q : ℕ). p * 2 ^ n + q) (digit_one x n ∙ ap one (h n (omega arith))) (word_by_bits m x from n (λ i l. h i (omega arith)))
 
 pub by_marks : (m : ℕ → Bool) (ws : List ℕ) → length ws ≡ 2 → get_or ws 0 0 < 2 ^ 64 → get_or ws 1 0 < 2 ^ 64 → ((s : ℕ) → s < 128 → marked ws s ≡ m s) → ws ≡ of_marks m
 unfolding of_marks
@@ -183,8 +183,8 @@ unfolding of_marks
 of_marks_long m = refl
 
 -- two words, each below 2 ^ 64, with the marks m
-pub two-words : (m : ℕ → Bool) (a b : ℕ) → a < 2 ^ 64 → b < 2 ^ 64 → ((s : ℕ) → s < 128 → marked (a ∷ b ∷ []) s ≡ m s) → a ∷ b ∷ [] ≡ of_marks m
-two-words m a b h k f = by_marks m (a ∷ b ∷ []) refl h k f
+pub two_words : (m : ℕ → Bool) (a b : ℕ) → a < 2 ^ 64 → b < 2 ^ 64 → ((s : ℕ) → s < 128 → marked (a ∷ b ∷ []) s ≡ m s) → a ∷ b ∷ [] ≡ of_marks m
+two_words m a b h k f = by_marks m (a ∷ b ∷ []) refl h k f
 
 -- the marks of two words, word by word
 module _ (m : ℕ → Bool) (a b : ℕ) where
@@ -196,26 +196,26 @@ module _ (m : ℕ → Bool) (a b : ℕ) where
       go (no p) = mark_low (a ∷ b ∷ []) s (lt_of_not-le p) ∙ f s (lt_of_not-le p)
 
 -- ---- `join`: the words are put together by `|`
-pub join-words : (xs ys : List ℕ) → get_or xs 0 0 < 2 ^ 64 → get_or xs 1 0 < 2 ^ 64 → get_or ys 0 0 < 2 ^ 64 → get_or ys 1 0 < 2 ^ 64
+pub join_words : (xs ys : List ℕ) → get_or xs 0 0 < 2 ^ 64 → get_or xs 1 0 < 2 ^ 64 → get_or ys 0 0 < 2 ^ 64 → get_or ys 1 0 < 2 ^ 64
     → bit_or (get_or xs 0 0) (get_or ys 0 0) ∷ bit_or (get_or xs 1 0) (get_or ys 1 0) ∷ [] ≡ of_marks (λ s. marked xs s || marked ys s)
-join-words xs ys h k i j =
+join_words xs ys h k i j =
     let m : ℕ → Bool = λ s. marked xs s || marked ys s in
     let a : ℕ = bit_or (get_or xs 0 0) (get_or ys 0 0) in
     let b : ℕ = bit_or (get_or xs 1 0) (get_or ys 1 0) in
-    two-words m a b (or_lt 64 (get_or xs 0 0) (get_or ys 0 0) h i) (or_lt 64 (get_or xs 1 0) (get_or ys 1 0) k j)
+    two_words m a b (or_lt 64 (get_or xs 0 0) (get_or ys 0 0) h i) (or_lt 64 (get_or xs 1 0) (get_or ys 1 0) k j)
     (by_word m a b
-    (λ s l. bit-or (get_or xs 0 0) (get_or ys 0 0) s ∙ ap₂ ◌||◌ (sym (mark_low xs s l)) (sym (mark_low ys s l)))
-    (λ s l u. bit-or (get_or xs 1 0) (get_or ys 1 0) (s - 64) ∙ ap₂ ◌||◌ (sym (mark_high xs s l u)) (sym (mark_high ys s l u))))
+    (λ s l. bit_or_lem (get_or xs 0 0) (get_or ys 0 0) s ∙ ap₂ ◌||◌ (sym (mark_low xs s l)) (sym (mark_low ys s l)))
+    (λ s l u. bit_or_lem (get_or xs 1 0) (get_or ys 1 0) (s - 64) ∙ ap₂ ◌||◌ (sym (mark_high xs s l u)) (sym (mark_high ys s l u))))
 
 -- ---- `set_cleared`: bit 63 of the high word is set
-pub cleared-words : (ws : List ℕ) → get_or ws 0 0 < 2 ^ 64 → get_or ws 1 0 < 2 ^ 64 → get_or ws 0 0 ∷ bit_or (get_or ws 1 0) (2 ^ 63) ∷ [] ≡ of_marks (λ s. marked ws s || eqb s 127)
-cleared-words ws h k =
+pub cleared_words_lem : (ws : List ℕ) → get_or ws 0 0 < 2 ^ 64 → get_or ws 1 0 < 2 ^ 64 → get_or ws 0 0 ∷ bit_or (get_or ws 1 0) (2 ^ 63) ∷ [] ≡ of_marks (λ s. marked ws s || eqb s 127)
+cleared_words_lem ws h k =
     let m : ℕ → Bool = λ s. marked ws s || eqb s 127 in
     let b : ℕ = bit_or (get_or ws 1 0) (2 ^ 63) in
-    two-words m (get_or ws 0 0) b h (or_lt 64 (get_or ws 1 0) (2 ^ 63) k (omega arith))
+    two_words m (get_or ws 0 0) b h (or_lt 64 (get_or ws 1 0) (2 ^ 63) k (omega arith))
     (by_word m (get_or ws 0 0) b
     (λ s l. sym (mark_low ws s l) ∙ sym (ap (λ (t : Bool). marked ws s || t) (ne_eqb s 127 (λ e. omega arith)) ∙ or-false (marked ws s)))
-    (λ s l u. bit-or (get_or ws 1 0) (2 ^ 63) (s - 64)
+    (λ s l u. bit_or_lem (get_or ws 1 0) (2 ^ 63) (s - 64)
     ∙ ap₂ ◌||◌ (sym (mark_high ws s l u)) (bit-pow 63 (s - 64) ∙ eqb_iff (s - 64) 63 s 127 (λ e. omega arith) (λ e. omega arith))))
 
 -- ---- `set_changed`: what the code writes
@@ -234,31 +234,31 @@ module _ (a b t : ℕ) (ha : a < 2 ^ 64) (hb : b < 2 ^ 64) where
   other s x n = sym (ap (λ (c : Bool). c || x) (ne_eqb s t n))
 
   -- the slot lies in the low word
-  set-low : t < 64 → bit_or a (1 * 2 ^ t % 2 ^ 64) ∷ bit_and b (2 ^ 63 - 1) ∷ [] ≡ of_marks (set_marks (a ∷ b ∷ []) t)
-  set-low h =
+  set_low : t < 64 → bit_or a (1 * 2 ^ t % 2 ^ 64) ∷ bit_and b (2 ^ 63 - 1) ∷ [] ≡ of_marks (set_marks (a ∷ b ∷ []) t)
+  set_low h =
       let m : ℕ → Bool = set_marks (a ∷ b ∷ []) t in
       let x : ℕ = bit_or a (1 * 2 ^ t % 2 ^ 64) in
       let y : ℕ = bit_and b (2 ^ 63 - 1) in
-      two-words m x y (or_lt 64 a (1 * 2 ^ t % 2 ^ 64) ha (mod-lt (1 * 2 ^ t) (pow_pos 64))) (lt_of_le_of_lt (and_le_l b (2 ^ 63 - 1)) hb)
+      two_words m x y (or_lt 64 a (1 * 2 ^ t % 2 ^ 64) ha (mod-lt (1 * 2 ^ t) (pow_pos 64))) (lt_of_le_of_lt (and_le_l b (2 ^ 63 - 1)) hb)
       (by_word m x y
-      (λ s l. bit-set a t s h ∙ ap (λ (c : Bool). eqb s t || c) (sym (mark_low (a ∷ b ∷ []) s l) ∙ kept s (marked (a ∷ b ∷ []) s) (λ e. omega arith)))
+      (λ s l. bit_set a t s h ∙ ap (λ (c : Bool). eqb s t || c) (sym (mark_low (a ∷ b ∷ []) s l) ∙ kept s (marked (a ∷ b ∷ []) s) (λ e. omega arith)))
       (λ s l u. bit-drop b (s - 64) (omega arith)
       ∙ ap₂ (λ (c d : Bool). c && not d) (sym (mark_high (a ∷ b ∷ []) s l u)) (eqb_iff (s - 64) 63 s 127 (λ e. omega arith) (λ e. omega arith))
       ∙ other s (marked (a ∷ b ∷ []) s && not (eqb s 127)) (λ e. omega arith)))
 
   -- the slot lies in the high word
-  set-high : 64 ≤ t → t ≤ 125 → a ∷ bit_and (bit_or b (1 * 2 ^ (t - 64) % 2 ^ 64)) (2 ^ 63 - 1) ∷ [] ≡ of_marks (set_marks (a ∷ b ∷ []) t)
-  set-high l h =
+  set_high : 64 ≤ t → t ≤ 125 → a ∷ bit_and (bit_or b (1 * 2 ^ (t - 64) % 2 ^ 64)) (2 ^ 63 - 1) ∷ [] ≡ of_marks (set_marks (a ∷ b ∷ []) t)
+  set_high l h =
       let m : ℕ → Bool = set_marks (a ∷ b ∷ []) t in
       let z : ℕ = bit_or b (1 * 2 ^ (t - 64) % 2 ^ 64) in
       let y : ℕ = bit_and z (2 ^ 63 - 1) in
-      two-words m a y ha (lt_of_le_of_lt (and_le_l z (2 ^ 63 - 1)) (or_lt 64 b (1 * 2 ^ (t - 64) % 2 ^ 64) hb (mod-lt (1 * 2 ^ (t - 64)) (pow_pos 64))))
+      two_words m a y ha (lt_of_le_of_lt (and_le_l z (2 ^ 63 - 1)) (or_lt 64 b (1 * 2 ^ (t - 64) % 2 ^ 64) hb (mod-lt (1 * 2 ^ (t - 64)) (pow_pos 64))))
       (by_word m a y
       (λ s u. sym (mark_low (a ∷ b ∷ []) s u) ∙ kept s (marked (a ∷ b ∷ []) s) (λ e. omega arith)
       ∙ other s (marked (a ∷ b ∷ []) s && not (eqb s 127)) (λ e. omega arith))
       (λ s u v. bit-drop z (s - 64) (omega arith)
       ∙ ap₂ (λ (c d : Bool). c && not d)
-      (bit-set b (t - 64) (s - 64) (omega arith)
+      (bit_set b (t - 64) (s - 64) (omega arith)
       ∙ ap₂ ◌||◌ (eqb_iff (s - 64) (t - 64) s t (λ e. omega arith) (λ e. omega arith)) (sym (mark_high (a ∷ b ∷ []) s u v)))
       (eqb_iff (s - 64) 63 s 127 (λ e. omega arith) (λ e. omega arith))
       ∙ keep s (eqb s t) (marked (a ∷ b ∷ []) s) refl))
@@ -276,23 +276,23 @@ set_words (a ∷ b ∷ []) t e ha hb h = go (dec_le 64 t)
     go (yes p) =
         let w : t / 64 ≡ 1 = omega arith in
         let i : t % 64 ≡ t - 64 = omega arith in
-        rw (w, i) (set-high a b t ha hb p h)
+        rw (w, i) (set_high a b t ha hb p h)
     go (no p) =
         let w : t / 64 ≡ 0 = omega arith in
         let i : t % 64 ≡ t = omega arith in
-        rw (w, i) (set-low a b t ha hb (lt_of_not-le p))
+        rw (w, i) (set_low a b t ha hb (lt_of_not-le p))
 set_words (a ∷ b ∷ c ∷ ws) t e ha hb h = absurd (omega arith)
 
 -- ---- bits 126 and 127 as tests of the high word
-zero-digit : (d : ℕ) → d < 2 → eqb d 1 ≡ false → d ≡ 0
-zero-digit zero h e = refl
-zero-digit (suc zero) h e = absurd (eqb-false 1 1 e refl)
-zero-digit (suc (suc d)) h e = absurd (omega arith)
+zero_digit : (d : ℕ) → d < 2 → eqb d 1 ≡ false → d ≡ 0
+zero_digit zero h e = refl
+zero_digit (suc zero) h e = absurd (eqb-false 1 1 e refl)
+zero_digit (suc (suc d)) h e = absurd (omega arith)
 
 -- where the digit at n is 0, the remainders by 2 ^ (n + 1) and by 2 ^ n are the same
 without : (y n : ℕ) → bit y n ≡ false → y % 2 ^ suc n ≡ y % 2 ^ n
 without y n e =
-    more_digits y n ∙ ap (λ (d : ℕ). d * 2 ^ n + y % 2 ^ n) (zero-digit (digit y n) (digit_lt y n) e) ∙ (let z : 0 * 2 ^ n + y % 2 ^ n ≡ y % 2 ^ n = omega arith in z)
+    more_digits y n ∙ ap (λ (d : ℕ). d * 2 ^ n + y % 2 ^ n) (zero_digit (digit y n) (digit_lt y n) e) ∙ (let z : 0 * 2 ^ n + y % 2 ^ n ≡ y % 2 ^ n = omega arith in z)
 
 -- bit 63 is set exactly where the word reaches 2 ^ 63
 pub top_bit_test : (y : ℕ) → y < 2 ^ 64 → leb (2 ^ 63) y ≡ bit y 63

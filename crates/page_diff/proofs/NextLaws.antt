@@ -13,8 +13,8 @@ use lib.Bits.{bit_and, and_le_l}
 use lib.Count.{count_trailing_zeros}
 use borrow.Author.Tests.{eq-eqb, ne_eqb}
 use Rattle.page_diff.specs.Diff.{digit, marked, first_slot, without_first}
-use Rattle.page_diff.proofs.Digits.{digit_none, lowest, lowest-found, drop_lowest, digit_dropped_low, digit_dropped_high}
-use Rattle.page_diff.proofs.MarkLaws.{bit, on, off, eqb_iff, mark_low, mark_high, by_marks, two-words, by_word}
+use Rattle.page_diff.proofs.Digits.{digit_none, lowest, lowest_found, drop_lowest, digit_dropped_low, digit_dropped_high}
+use Rattle.page_diff.proofs.MarkLaws.{bit, on, off, eqb_iff, mark_low, mark_high, by_marks, two_words, by_word}
 use Rattle.page_diff.proofs.SlotLaws.{first_is, first_none}
 
 -- a word without its lowest set digit, at t
@@ -42,63 +42,63 @@ module _ (ws : List ℕ) (h : get_or ws 0 0 < 2 ^ 64) (k : get_or ws 1 0 < 2 ^ 6
   pub low_first : (get_or ws 0 0 ≡ 0 → ⊥) → first_slot ws ≡ count_trailing_zeros 64 (get_or ws 0 0)
   low_first n =
       let x : ℕ = get_or ws 0 0 in
-      let l : count_trailing_zeros 64 x < 64 = lowest-found 64 x h n in
+      let l : count_trailing_zeros 64 x < 64 = lowest_found 64 x h n in
       first_is ws (count_trailing_zeros 64 x) (omega arith) (mark_low ws (count_trailing_zeros 64 x) l ∙ on ((lowest 64 x).there l)) (λ s q. mark_low ws s (omega arith) ∙ off ((lowest 64 x).below s q))
 
-  pub low-rest : (get_or ws 0 0 ≡ 0 → ⊥) → bit_and (get_or ws 0 0) (get_or ws 0 0 - 1) ∷ get_or ws 1 0 ∷ [] ≡ without_first ws
-  low-rest n =
+  pub low_rest : (get_or ws 0 0 ≡ 0 → ⊥) → bit_and (get_or ws 0 0) (get_or ws 0 0 - 1) ∷ get_or ws 1 0 ∷ [] ≡ without_first ws
+  low_rest n =
       let x : ℕ = get_or ws 0 0 in
       let t : ℕ = count_trailing_zeros 64 x in
-      let l : t < 64 = lowest-found 64 x h n in
+      let l : t < 64 = lowest_found 64 x h n in
       let m : ℕ → Bool = λ s. marked ws s && not (eqb s (first_slot ws)) in
-      two-words m (bit_and x (x - 1)) (get_or ws 1 0) (lt_of_le_of_lt (and_le_l x (x - 1)) h) k
+      two_words m (bit_and x (x - 1)) (get_or ws 1 0) (lt_of_le_of_lt (and_le_l x (x - 1)) h) k
       (by_word m (bit_and x (x - 1)) (get_or ws 1 0)
       (λ s u. without_lowest x t s (lowest 64 x).below ((lowest 64 x).there l)
       ∙ ap₂ (λ (b : Bool) (f : ℕ). b && not (eqb s f)) (sym (mark_low ws s u)) (sym (low_first n)))
       (λ s u v. sym (mark_high ws s u v)
       ∙ sym (ap (λ (b : Bool). marked ws s && not b) (ne_eqb s (first_slot ws) (λ e. omega (arith, low_first n))) ∙ and-true (marked ws s))))
 
-  low-unmarked : get_or ws 0 0 ≡ 0 → (s : ℕ) → s < 64 → marked ws s ≡ false
-  low-unmarked z s l = mark_low ws s l ∙ ap (λ (x : ℕ). bit x s) z ∙ off (digit_none s)
+  low_unmarked : get_or ws 0 0 ≡ 0 → (s : ℕ) → s < 64 → marked ws s ≡ false
+  low_unmarked z s l = mark_low ws s l ∙ ap (λ (x : ℕ). bit x s) z ∙ off (digit_none s)
 
   -- the low word is 0 and the high one is not
-  pub high-first : get_or ws 0 0 ≡ 0 → (get_or ws 1 0 ≡ 0 → ⊥) → first_slot ws ≡ 64 + count_trailing_zeros 64 (get_or ws 1 0)
-  high-first z n =
+  pub high_first : get_or ws 0 0 ≡ 0 → (get_or ws 1 0 ≡ 0 → ⊥) → first_slot ws ≡ 64 + count_trailing_zeros 64 (get_or ws 1 0)
+  high_first z n =
       let x : ℕ = get_or ws 1 0 in
       let t : ℕ = count_trailing_zeros 64 x in
-      let l : t < 64 = lowest-found 64 x k n in
+      let l : t < 64 = lowest_found 64 x k n in
       let d : 64 + t - 64 ≡ t = omega arith in
       first_is ws (64 + t) (omega arith) (mark_high ws (64 + t) (omega arith) (omega arith) ∙ on (ap (digit x) d ∙ (lowest 64 x).there l)) (λ s q. by s q (dec_le 64 s))
     where
       by : (s : ℕ) → s < 64 + count_trailing_zeros 64 (get_or ws 1 0) → Dec (64 ≤ s) → marked ws s ≡ false
-      by s q (yes p) = mark_high ws s p (omega (arith, lowest-found 64 (get_or ws 1 0) k n)) ∙ off ((lowest 64 (get_or ws 1 0)).below (s - 64) (omega arith))
-      by s q (no p) = low-unmarked z s (lt_of_not-le p)
+      by s q (yes p) = mark_high ws s p (omega (arith, lowest_found 64 (get_or ws 1 0) k n)) ∙ off ((lowest 64 (get_or ws 1 0)).below (s - 64) (omega arith))
+      by s q (no p) = low_unmarked z s (lt_of_not-le p)
 
-  pub high-rest : get_or ws 0 0 ≡ 0 → (get_or ws 1 0 ≡ 0 → ⊥) → 0 ∷ bit_and (get_or ws 1 0) (get_or ws 1 0 - 1) ∷ [] ≡ without_first ws
-  high-rest z n =
+  pub high_rest : get_or ws 0 0 ≡ 0 → (get_or ws 1 0 ≡ 0 → ⊥) → 0 ∷ bit_and (get_or ws 1 0) (get_or ws 1 0 - 1) ∷ [] ≡ without_first ws
+  high_rest z n =
       let x : ℕ = get_or ws 1 0 in
       let t : ℕ = count_trailing_zeros 64 x in
-      let l : t < 64 = lowest-found 64 x k n in
+      let l : t < 64 = lowest_found 64 x k n in
       let m : ℕ → Bool = λ s. marked ws s && not (eqb s (first_slot ws)) in
-      two-words m 0 (bit_and x (x - 1)) (omega arith) (lt_of_le_of_lt (and_le_l x (x - 1)) k)
+      two_words m 0 (bit_and x (x - 1)) (omega arith) (lt_of_le_of_lt (and_le_l x (x - 1)) k)
       (by_word m 0 (bit_and x (x - 1))
-      (λ s u. off (digit_none s) ∙ sym (ap (λ (b : Bool). b && not (eqb s (first_slot ws))) (low-unmarked z s u)))
+      (λ s u. off (digit_none s) ∙ sym (ap (λ (b : Bool). b && not (eqb s (first_slot ws))) (low_unmarked z s u)))
       (λ s u v. without_lowest x t (s - 64) (lowest 64 x).below ((lowest 64 x).there l)
       ∙ ap₂ (λ (b c : Bool). b && not c) (sym (mark_high ws s u v))
-      (eqb_iff (s - 64) t s (first_slot ws) (λ e. omega (arith, high-first z n)) (λ e. omega (arith, high-first z n)))))
+      (eqb_iff (s - 64) t s (first_slot ws) (λ e. omega (arith, high_first z n)) (λ e. omega (arith, high_first z n)))))
 
-  none-marked : get_or ws 0 0 ≡ 0 → get_or ws 1 0 ≡ 0 → (s : ℕ) → s < 128 → marked ws s ≡ false
-  none-marked y z s v = by (dec_le 64 s)
+  none_marked : get_or ws 0 0 ≡ 0 → get_or ws 1 0 ≡ 0 → (s : ℕ) → s < 128 → marked ws s ≡ false
+  none_marked y z s v = by (dec_le 64 s)
     where
       by : Dec (64 ≤ s) → marked ws s ≡ false
       by (yes p) = mark_high ws s p v ∙ ap (λ (x : ℕ). bit x (s - 64)) z ∙ off (digit_none (s - 64))
-      by (no p) = low-unmarked y s (lt_of_not-le p)
+      by (no p) = low_unmarked y s (lt_of_not-le p)
 
   -- there is no mark
-  pub no-first : get_or ws 0 0 ≡ 0 → get_or ws 1 0 ≡ 0 → first_slot ws ≡ 128
-  no-first y z = first_none ws (none-marked y z)
+  pub no_first : get_or ws 0 0 ≡ 0 → get_or ws 1 0 ≡ 0 → first_slot ws ≡ 128
+  no_first y z = first_none ws (none_marked y z)
 
-  pub no-rest : length ws ≡ 2 → get_or ws 0 0 ≡ 0 → get_or ws 1 0 ≡ 0 → ws ≡ without_first ws
-  no-rest e y z =
+  pub no_rest : length ws ≡ 2 → get_or ws 0 0 ≡ 0 → get_or ws 1 0 ≡ 0 → ws ≡ without_first ws
+  no_rest e y z =
       by_marks (λ s. marked ws s && not (eqb s (first_slot ws))) ws e h k
-      (λ s v. unmarked (marked ws s) (not (eqb s (first_slot ws))) (none-marked y z s v))
+      (λ s v. unmarked (marked ws s) (not (eqb s (first_slot ws))) (none_marked y z s v))

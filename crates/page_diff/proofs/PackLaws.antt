@@ -13,10 +13,10 @@ use lib.Seq.{set_at, append_snoc, take-suc, take-length, length-take-le}
 use borrow.Author.Tests.{lt-ltb, le-ltb, eq-eqb, ne_eqb}
 use Rattle.answers.specs.Answers.{Answer, given, refused, accepted}
 use Rattle.blocks.specs.Blocks.{put, tabulate}
-use Rattle.blocks.proofs.Laws.{put_in, put-left, put_right, tabulate_is}
+use Rattle.blocks.proofs.Laws.{put_in, put_left, put_right, tabulate_is}
 use Rattle.page_diff.specs.Diff.{marked, slots_below, slots, count_of, reserved}
 use Rattle.page_diff.specs.Pack.{node_at, table_of, packed_by, pack_answer, packed_of, rank, unpack_answer, unpacked_byte, unpacked_page}
-use Rattle.page_diff.proofs.SlotLaws.{SlotAt, at-rank, rank_below}
+use Rattle.page_diff.proofs.SlotLaws.{SlotAt, at_rank, rank_below}
 
 -- ---- packing: the table is filled from the front
 pub table_none : (page : List ℕ) → replicate 126 (replicate 32 0) ≡ table_of page []
@@ -63,8 +63,8 @@ put_none ws ns page j =
 
 module _ (ws : List ℕ) (ns : List (List ℕ)) (page was : List ℕ) (c s : ℕ) (a : SlotAt ws 128 c s) where
   -- a byte of another slot: its slot is done before this turn exactly where it is after
-  other-slot : (j : ℕ) → j < 4096 → (j / 32 ≡ s → ⊥) → put_up_to ws ns page c j ≡ put_up_to ws ns page (c + 1) j
-  other-slot j h n =
+  other_slot : (j : ℕ) → j < 4096 → (j / 32 ≡ s → ⊥) → put_up_to ws ns page c j ≡ put_up_to ws ns page (c + 1) j
+  other_slot j h n =
       ap (λ (b : Bool). cond b (get_or (get_or ns (rank ws (j / 32)) []) (j % 32) 0) (get_or page j 0)) (go (marked ws (j / 32)) refl (dec_le c (rank ws (j / 32))) (dec_le (c + 1) (rank ws (j / 32))))
     where
       r : ℕ
@@ -75,14 +75,14 @@ module _ (ws : List ℕ) (ns : List (List ℕ)) (page was : List ℕ) (c s : ℕ
       go true e (yes p) (yes q) = ap (λ (b : Bool). marked ws (j / 32) && b) (le-ltb r c p ∙ sym (le-ltb r (c + 1) q))
       go true e (yes p) (no q) =
           let f : r ≡ length (slots_below ws s) = omega (arith, a.ranked) in
-          absurd (n (sym (at-rank ws 128 (j / 32) 128 (omega arith) e) ∙ ap (λ (i : ℕ). get_or (slots ws) i 128) f ∙ at-rank ws 128 s 128 a.below a.has-mark))
+          absurd (n (sym (at_rank ws 128 (j / 32) 128 (omega arith) e) ∙ ap (λ (i : ℕ). get_or (slots ws) i 128) f ∙ at_rank ws 128 s 128 a.below a.has_mark))
       go true e (no p) q = ap (λ (b : Bool). marked ws (j / 32) && b) (lt-ltb r c (lt_of_not-le p) ∙ sym (lt-ltb r (c + 1) (omega arith)))
 
   -- a byte of this slot
-  this-slot : (j : ℕ) → j / 32 ≡ s → put_up_to ws ns page (c + 1) j ≡ get_or (get_or ns c []) (j % 32) 0
-  this-slot j e =
+  this_slot : (j : ℕ) → j / 32 ≡ s → put_up_to ws ns page (c + 1) j ≡ get_or (get_or ns c []) (j % 32) 0
+  this_slot j e =
       let r : rank ws (j / 32) ≡ c = ap (rank ws) e ∙ a.ranked in
-      ap₂ (λ (m l : Bool). cond (m && l) (get_or (get_or ns (rank ws (j / 32)) []) (j % 32) 0) (get_or page j 0)) (ap (marked ws) e ∙ a.has-mark) (lt-ltb (rank ws (j / 32)) (c + 1) (omega arith))
+      ap₂ (λ (m l : Bool). cond (m && l) (get_or (get_or ns (rank ws (j / 32)) []) (j % 32) 0) (get_or page j 0)) (ap (marked ws) e ∙ a.has_mark) (lt-ltb (rank ws (j / 32)) (c + 1) (omega arith))
       ∙ ap (λ (i : ℕ). get_or (get_or ns i []) (j % 32) 0) r
 
   pub put_turn : (n : List ℕ) → n ≡ get_or ns c [] → length n ≡ 32 → length was ≡ 4096 → s < 126 → ((j : ℕ) → j < 4096 → get_or was j 0 ≡ put_up_to ws ns page c j)
@@ -90,12 +90,12 @@ module _ (ws : List ℕ) (ns : List (List ℕ)) (page was : List ℕ) (c s : ℕ
   put_turn n e l w k f j h = go (dec_le (32 * s) j) (dec_le (32 * s + 32) j)
     where
       go : Dec (32 * s ≤ j) → Dec (32 * s + 32 ≤ j) → get_or (put was (32 * s) n) j 0 ≡ put_up_to ws ns page (c + 1) j
-      go (yes p) (yes q) = put_right was (32 * s) n j (omega arith) ∙ f j h ∙ other-slot j h (λ d. omega arith)
+      go (yes p) (yes q) = put_right was (32 * s) n j (omega arith) ∙ f j h ∙ other_slot j h (λ d. omega arith)
       go (yes p) (no q) =
           let d : j / 32 ≡ s = omega arith in
           let m : j - 32 * s ≡ j % 32 = omega arith in
-          put_in was (32 * s) n j (omega arith) p (omega arith) ∙ ap₂ (λ (x : List ℕ) (i : ℕ). get_or x i 0) e m ∙ sym (this-slot j d)
-      go (no p) q = put-left was (32 * s) n j (lt_of_not-le p) ∙ f j h ∙ other-slot j h (λ d. omega arith)
+          put_in was (32 * s) n j (omega arith) p (omega arith) ∙ ap₂ (λ (x : List ℕ) (i : ℕ). get_or x i 0) e m ∙ sym (this_slot j d)
+      go (no p) q = put_left was (32 * s) n j (lt_of_not-le p) ∙ f j h ∙ other_slot j h (λ d. omega arith)
 
 -- all nodes are put
 pub put_all : (ws : List ℕ) (ns : List (List ℕ)) (page out : List ℕ) (c : ℕ) → c ≡ count_of ws → length out ≡ 4096 → ((j : ℕ) → j < 4096 → get_or out j 0 ≡ put_up_to ws ns page c j)
@@ -113,39 +113,39 @@ module _ (ws page : List ℕ) where
   unfolding pack_answer
   pack-length n = simp (ne_eqb (length page) 4096 n)
 
-  pub pack-reserved : length page ≡ 4096 → reserved ws ≡ true → pack_answer ws page ≡ refused 4
+  pub pack_reserved : length page ≡ 4096 → reserved ws ≡ true → pack_answer ws page ≡ refused 4
   unfolding pack_answer
-  pack-reserved l e = simp (eq-eqb (length page) 4096 l, e)
+  pack_reserved l e = simp (eq-eqb (length page) 4096 l, e)
 
-  pub pack-given : length page ≡ 4096 → reserved ws ≡ false → pack_answer ws page ≡ given tt
+  pub pack_given : length page ≡ 4096 → reserved ws ≡ false → pack_answer ws page ≡ given tt
   unfolding pack_answer
-  pack-given l e = simp (eq-eqb (length page) 4096 l, e)
+  pack_given l e = simp (eq-eqb (length page) 4096 l, e)
 
-  pub packed-refused : (n : ℕ) → pack_answer ws page ≡ refused n → packed_by (replicate 126 (replicate 32 0)) 0 ≡ packed_of ws page
-  packed-refused n e = ap (λ (t : List (List ℕ)). packed_by t 0) (table_none page) ∙ sym (ap (λ (a : Answer (Unit {0})). cond (accepted a) (packed_by (table_of page (slots ws)) (count_of ws)) (packed_by (table_of page []) 0)) e)
+  pub packed_refused : (n : ℕ) → pack_answer ws page ≡ refused n → packed_by (replicate 126 (replicate 32 0)) 0 ≡ packed_of ws page
+  packed_refused n e = ap (λ (t : List (List ℕ)). packed_by t 0) (table_none page) ∙ sym (ap (λ (a : Answer (Unit {0})). cond (accepted a) (packed_by (table_of page (slots ws)) (count_of ws)) (packed_by (table_of page []) 0)) e)
 
-  pub packed-given : pack_answer ws page ≡ given tt → packed_by (table_of page (slots ws)) (count_of ws) ≡ packed_of ws page
-  packed-given e = sym (ap (λ (a : Answer (Unit {0})). cond (accepted a) (packed_by (table_of page (slots ws)) (count_of ws)) (packed_by (table_of page []) 0)) e)
+  pub packed_given : pack_answer ws page ≡ given tt → packed_by (table_of page (slots ws)) (count_of ws) ≡ packed_of ws page
+  packed_given e = sym (ap (λ (a : Answer (Unit {0})). cond (accepted a) (packed_by (table_of page (slots ws)) (count_of ws)) (packed_by (table_of page []) 0)) e)
 
 module _ (ws : List ℕ) (held : ℕ) (page : List ℕ) where
   pub unpack-length : (length page ≡ 4096 → ⊥) → unpack_answer ws held page ≡ refused 2
   unfolding unpack_answer
   unpack-length n = simp (ne_eqb (length page) 4096 n)
 
-  pub unpack-reserved : length page ≡ 4096 → reserved ws ≡ true → unpack_answer ws held page ≡ refused 4
+  pub unpack_reserved : length page ≡ 4096 → reserved ws ≡ true → unpack_answer ws held page ≡ refused 4
   unfolding unpack_answer
-  unpack-reserved l e = simp (eq-eqb (length page) 4096 l, e)
+  unpack_reserved l e = simp (eq-eqb (length page) 4096 l, e)
 
-  pub unpack-count : length page ≡ 4096 → reserved ws ≡ false → (held ≡ count_of ws → ⊥) → unpack_answer ws held page ≡ refused 2
+  pub unpack_count : length page ≡ 4096 → reserved ws ≡ false → (held ≡ count_of ws → ⊥) → unpack_answer ws held page ≡ refused 2
   unfolding unpack_answer
-  unpack-count l e n = simp (eq-eqb (length page) 4096 l, e, ne_eqb held (count_of ws) n)
+  unpack_count l e n = simp (eq-eqb (length page) 4096 l, e, ne_eqb held (count_of ws) n)
 
-  pub unpack-given : length page ≡ 4096 → reserved ws ≡ false → held ≡ count_of ws → unpack_answer ws held page ≡ given tt
+  pub unpack_given : length page ≡ 4096 → reserved ws ≡ false → held ≡ count_of ws → unpack_answer ws held page ≡ given tt
   unfolding unpack_answer
-  unpack-given l e c = simp (eq-eqb (length page) 4096 l, e, eq-eqb held (count_of ws) c)
+  unpack_given l e c = simp (eq-eqb (length page) 4096 l, e, eq-eqb held (count_of ws) c)
 
-  pub unpacked-refused : (ns : List (List ℕ)) (n : ℕ) → unpack_answer ws held page ≡ refused n → page ≡ unpacked_page ws ns held page
-  unpacked-refused ns n e = sym (ap (λ (a : Answer (Unit {0})). cond (accepted a) (tabulate (unpacked_byte ws ns page) 4096) page) e)
+  pub unpacked_refused : (ns : List (List ℕ)) (n : ℕ) → unpack_answer ws held page ≡ refused n → page ≡ unpacked_page ws ns held page
+  unpacked_refused ns n e = sym (ap (λ (a : Answer (Unit {0})). cond (accepted a) (tabulate (unpacked_byte ws ns page) 4096) page) e)
 
-  pub unpacked-given : (ns : List (List ℕ)) → unpack_answer ws held page ≡ given tt → tabulate (unpacked_byte ws ns page) 4096 ≡ unpacked_page ws ns held page
-  unpacked-given ns e = sym (ap (λ (a : Answer (Unit {0})). cond (accepted a) (tabulate (unpacked_byte ws ns page) 4096) page) e)
+  pub unpacked_given : (ns : List (List ℕ)) → unpack_answer ws held page ≡ given tt → tabulate (unpacked_byte ws ns page) 4096 ≡ unpacked_page ws ns held page
+  unpacked_given ns e = sym (ap (λ (a : Answer (Unit {0})). cond (accepted a) (tabulate (unpacked_byte ws ns page) 4096) page) e)

@@ -11,12 +11,12 @@ use lib.ListN.{length, get_or, drop, get_or-eq_default}
 use lib.Seq.{get_or-drop, drop-drop}
 use Rattle.page_diff.specs.Diff.{marked, slots_below, slots, count_of, reserved, first_slot, without_first}
 use Rattle.page_diff.proofs.MarkLaws.{of_marks_lem}
-use Rattle.page_diff.proofs.SlotLaws.{SlotAt, slot_at, slots-skip, slots-few, rest-slots}
+use Rattle.page_diff.proofs.SlotLaws.{SlotAt, slot_at, slots_skip, slots_few, rest_slots}
 
 -- the slots of the marks without the first
-pub without-slots : (ws ls : List ℕ) → ls ≡ without_first ws → slots ls ≡ drop 1 (slots ws)
-without-slots ws ls e =
-    rest-slots ws ls (λ s h. ap (λ (l : List ℕ). marked l s) e ∙ of_marks_lem (λ t. marked ws t && not (eqb t (first_slot ws))) s h)
+pub without_slots : (ws ls : List ℕ) → ls ≡ without_first ws → slots ls ≡ drop 1 (slots ws)
+without_slots ws ls e =
+    rest_slots ws ls (λ s h. ap (λ (l : List ℕ). marked l s) e ∙ of_marks_lem (λ t. marked ws t && not (eqb t (first_slot ws))) s h)
 
 -- c slots are done, and ls has the marks that are left
 pub record Walk (ws ls : List ℕ) (c : ℕ) : Type 0 where
@@ -32,18 +32,18 @@ module _ (ws ls : List ℕ) (c s : ℕ) (w : Walk ws ls c) (first : s ≡ first_
   walk_at = let z : c + 0 ≡ c = omega arith in first ∙ ap (λ (l : List ℕ). get_or l 0 128) w.left ∙ get_or-drop c (slots ws) 0 128 ∙ ap (λ (i : ℕ). get_or (slots ws) i 128) z
 
   -- a turn is made at a slot of the diff
-  pub walk-on : s < 128 → c < count_of ws
-  walk-on h = go (dec_le (count_of ws) c)
+  pub walk_on : s < 128 → c < count_of ws
+  walk_on h = go (dec_le (count_of ws) c)
     where
       go : Dec (count_of ws ≤ c) → c < count_of ws
       go (yes p) = absurd (omega (arith, walk_at, get_or-eq_default (slots ws) 128 {n = c} p))
       go (no p) = lt_of_not-le p
 
-  pub walk-slot : s < 128 → SlotAt ws 128 c s
-  walk-slot h = subst (SlotAt ws 128 c) (sym walk_at) (slot_at ws 128 c 128 (walk-on h))
+  pub walk_slot : s < 128 → SlotAt ws 128 c s
+  walk_slot h = subst (SlotAt ws 128 c) (sym walk_at) (slot_at ws 128 c 128 (walk_on h))
 
   pub walk_step : (ms : List ℕ) → s < 128 → ms ≡ without_first ls → Walk ws ms (c + 1)
-  walk_step ms h e = record { left = without-slots ls ms e ∙ ap (drop 1) w.left ∙ drop-drop 1 c (slots ws); upto = omega (arith, walk-on h) }
+  walk_step ms h e = record { left = without_slots ls ms e ∙ ap (drop 1) w.left ∙ drop-drop 1 c (slots ws); upto = omega (arith, walk_on h) }
 
 -- a diff of nodes alone has no mark from 126 on
 pub plain_unmarked : (ws : List ℕ) → reserved ws ≡ false → (s : ℕ) → 126 ≤ s → s < 128 → marked ws s ≡ false
@@ -56,11 +56,11 @@ plain_unmarked ws e s h k = go (marked ws 126) refl (dec_le 127 s)
         ap (marked ws) q ∙ sym (ap (λ (b : Bool). b || marked ws 127) f) ∙ e
     go false f (no p) = let q : s ≡ 126 = omega arith in ap (marked ws) q ∙ f
 
-pub plain-slots : (ws : List ℕ) → reserved ws ≡ false → slots ws ≡ slots_below ws 126
-plain-slots ws e = slots-skip ws 126 128 (omega arith) (plain_unmarked ws e)
+pub plain_slots : (ws : List ℕ) → reserved ws ≡ false → slots ws ≡ slots_below ws 126
+plain_slots ws e = slots_skip ws 126 128 (omega arith) (plain_unmarked ws e)
 
 pub plain_count : (ws : List ℕ) → reserved ws ≡ false → count_of ws ≤ 126
-plain_count ws e = omega (arith, ap length (plain-slots ws e), slots-few ws 126)
+plain_count ws e = omega (arith, ap length (plain_slots ws e), slots_few ws 126)
 
 -- it ends when all slots are done
 pub walk_end : (ws ls : List ℕ) (c s : ℕ) → Walk ws ls c → s ≡ first_slot ls → reserved ws ≡ false → 126 ≤ s → c ≡ count_of ws
@@ -70,4 +70,4 @@ walk_end ws ls c s w f e h = go (dec_le (count_of ws) c)
     go (yes p) = omega (arith, w.upto)
     go (no p) =
         let a : SlotAt ws 128 c s = subst (SlotAt ws 128 c) (sym (walk_at ws ls c s w f)) (slot_at ws 128 c 128 (lt_of_not-le p)) in
-        absurd (true≢false (sym a.has-mark ∙ plain_unmarked ws e s h a.below))
+        absurd (true≢false (sym a.has_mark ∙ plain_unmarked ws e s h a.below))

@@ -18,7 +18,7 @@ use Rattle.probe.specs.declared.Limit.{Limit}
 use Rattle.probe.specs.declared.Limit.TheVariants as limits
 use Rattle.probe.specs.Path.{visit, visits, path_from, hits, Stop, stop_at, nowhere, is_free, is_hit, stops_probe, allows, no_bucket_by, free_at, free_stop, no_bucket, allocation_saw, allocating, allocate_answer}
 use Rattle.probe.proofs.Visits.{visit_below, hits_next, hits_mono}
-use Rattle.probe.proofs.Walk.{Passed, Stopped, stop-told}
+use Rattle.probe.proofs.Walk.{Passed, Stopped, stop_told}
 
 -- the hits before visit k
 abbrev pub hits_to : List ℕ → ℕ → ℕ → ℕ → ℕ
@@ -66,8 +66,8 @@ module _ (limit : Limit) (ts : List ℕ) (n h : ℕ) where
   unfolding allocating
   none_free e = rw e
 
-  no-bucket : (k a : ℕ) → k ≤ 2 * n → 0 < hits_to ts n h k → allows limit a ≡ false → no_bucket_by limit (hits ts h (path_from n h 0)) ≡ 10
-  no-bucket k a l m f =
+  no_bucket_lem : (k a : ℕ) → k ≤ 2 * n → 0 < hits_to ts n h k → allows limit a ≡ false → no_bucket_by limit (hits ts h (path_from n h 0)) ≡ 10
+  no_bucket_lem k a l m f =
       let e : k + (2 * n - k) ≡ 2 * n = omega arith in
       let all = ap (λ (j : ℕ). hits_to ts n h j) e in
       crowded_number limit a (hits ts h (path_from n h 0)) f (omega (arith, all, hits_mono ts n h 0 k (2 * n - k)))
@@ -78,7 +78,7 @@ module _ (limit : Limit) (ts : List ℕ) (n h : ℕ) where
   crowded k l a some m = go (free_stop ts n h) refl
     where
       ten : no_bucket_by limit (hits ts h (path_from n h 0)) ≡ 10
-      ten = no-bucket k (hits_to ts n h k) l some m
+      ten = no_bucket_lem k (hits_to ts n h k) l some m
 
       later : (b j : ℕ) → Stopped (free_at ts) n h 0 (2 * n) b j → Dec (j < k) → k ≤ j
       later b j s (yes q) = absurd (true≢false (sym s.test ∙ ap (free_at ts) s.here ∙ a j (omega arith) q))
@@ -91,13 +91,13 @@ module _ (limit : Limit) (ts : List ℕ) (n h : ℕ) where
           allows_fewer limit (hits_to ts n h k) (hits_to ts n h j) (omega (arith, ap (λ (i : ℕ). hits_to ts n h i) e, hits_mono ts n h 0 k (j - k))) m
 
       go : (s : Stop) → free_stop ts n h ≡ s → and_then (allocation_saw limit ts n h s) (λ v. given v.0) ≡ refused 10
-      go (stop_at b j) e = rw (more b j (stop-told (free_at ts) n h 0 (2 * n) b j e)) (ap refused ten)
+      go (stop_at b j) e = rw (more b j (stop_told (free_at ts) n h 0 (2 * n) b j e)) (ap refused ten)
       go nowhere e = ap refused ten
 
   -- a bucket is given only so
-  pub given-told : (b : ℕ) → allocating limit ts n h ≡ given b → (k : ℕ) × Given limit ts n h b k
+  pub given_told : (b : ℕ) → allocating limit ts n h ≡ given b → (k : ℕ) × Given limit ts n h b k
   unfolding allocating
-  given-told b e = go (free_stop ts n h) refl e
+  given_told b e = go (free_stop ts n h) refl e
     where
       none : (m : ℕ) → refused m ≡ given b → ⊥
       none m q = let z : ◌≡◌ {A = ℕ} 0 1 = cc in absurd (omega arith)
@@ -108,7 +108,7 @@ module _ (limit : Limit) (ts : List ℕ) (n h : ℕ) where
           let same : c ≡ b = cc in (
             j,
             record {
-              stop = subst (λ (x : ℕ). Stopped (free_at ts) n h 0 (2 * n) x j) same (stop-told (free_at ts) n h 0 (2 * n) c j s);
+              stop = subst (λ (x : ℕ). Stopped (free_at ts) n h 0 (2 * n) x j) same (stop_told (free_at ts) n h 0 (2 * n) c j s);
               few = l;
             },
           )
@@ -119,9 +119,9 @@ module _ (limit : Limit) (ts : List ℕ) (n h : ℕ) where
       go nowhere s q = absurd (none (no_bucket_by limit (hits ts h (path_from n h 0))) q)
 
   -- a refusal is for the path
-  pub refused-told : (m : ℕ) → allocating limit ts n h ≡ refused m → m ≡ no_bucket_by limit (hits ts h (path_from n h 0))
+  pub refused_told : (m : ℕ) → allocating limit ts n h ≡ refused m → m ≡ no_bucket_by limit (hits ts h (path_from n h 0))
   unfolding allocating
-  refused-told m e = go (free_stop ts n h) e
+  refused_told m e = go (free_stop ts n h) e
     where
       number : (k : ℕ) → ◌≡◌ {A = Answer ℕ} (refused k) (refused m) → m ≡ k
       number k q = let z : k ≡ m = cc in sym z
@@ -135,32 +135,32 @@ module _ (limit : Limit) (ts : List ℕ) (n h : ℕ) where
       go nowhere q = number (no_bucket_by limit (hits ts h (path_from n h 0))) q
 
   -- the table fits, too
-  pub answer-told : (b : ℕ) → allocate_answer limit ts n h ≡ given b → (tags_fit n (length ts) ≡ true) × (allocating limit ts n h ≡ given b)
-  answer-told b e = go (tags_fit n (length ts)) refl e
+  pub answer_told : (b : ℕ) → allocate_answer limit ts n h ≡ given b → (tags_fit n (length ts) ≡ true) × (allocating limit ts n h ≡ given b)
+  answer_told b e = go (tags_fit n (length ts)) refl e
     where
       go : (t : Bool) → tags_fit n (length ts) ≡ t → cond t (allocating limit ts n h) (refused 1) ≡ given b → (tags_fit n (length ts) ≡ true) × (allocating limit ts n h ≡ given b)
       go true f q = (f, q)
       go false f q = let z : ◌≡◌ {A = ℕ} 0 1 = cc in absurd (omega arith)
 
-  pub answer-below : (b : ℕ) → allocate_answer limit ts n h ≡ given b → (b < n) × (n ≤ length ts)
-  answer-below b e =
-      let q = answer-told b e in
+  pub answer_below : (b : ℕ) → allocate_answer limit ts n h ≡ given b → (b < n) × (n ≤ length ts)
+  answer_below b e =
+      let q = answer_told b e in
       let f = tags_fit_facts n (length ts) q.0 in
-      let g = given-told b q.1 in
+      let g = given_told b q.1 in
       (omega (arith, g.1.stop.here, visit_below n h g.0 f.0), omega (arith, f))
 
 -- "10 if the path has a hit, 11 if it has none", and nothing else
 pub refused_numbers : (limit : Limit) (ts : List ℕ) (n h m : ℕ) → allocating limit ts n h ≡ refused m → (m ≡ 10) ⊎ (m ≡ 11)
-refused_numbers limit ts n h m e = either limit (hits ts h (path_from n h 0)) (refused-told limit ts n h m e)
+refused_numbers limit ts n h m e = either limit (hits ts h (path_from n h 0)) (refused_told limit ts n h m e)
   where
-    by-hits : (t : Bool) → m ≡ cond t 10 11 → (m ≡ 10) ⊎ (m ≡ 11)
-    by-hits true q = inl q
-    by-hits false q = inr q
+    by_hits : (t : Bool) → m ≡ cond t 10 11 → (m ≡ 10) ⊎ (m ≡ 11)
+    by_hits true q = inl q
+    by_hits false q = inr q
 
     either : (l : Limit) (k : ℕ) → m ≡ no_bucket_by l k → (m ≡ 10) ⊎ (m ≡ 11)
-    either (limits.Hits most) k q = by-hits (ltb 0 k) q
+    either (limits.Hits most) k q = by_hits (ltb 0 k) q
     either limits.Unlimited k q = inr q
 
 -- without a limit 10 does not occur
 pub unlimited_number : (ts : List ℕ) (n h m : ℕ) → allocating limits.Unlimited ts n h ≡ refused m → m ≡ 11
-unlimited_number ts n h m e = refused-told limits.Unlimited ts n h m e
+unlimited_number ts n h m e = refused_told limits.Unlimited ts n h m e

@@ -97,9 +97,9 @@ three_image = 0x81 ∷ 0x80 ∷ 0x00 ∷ replicate 16381 0
 abbrev no_id : List ℕ
 no_id = replicate 32 0
 
-pub stored-found : lookup_answer three_image 3 0 no_id ≡ given (found_at 1)
+pub stored_found : lookup_answer three_image 3 0 no_id ≡ given (found_at 1)
 unfolding allocating
-stored-found = found_after_allocation hit_limit three_tags 3 0 1 refl three_image no_id refl written refl only
+stored_found = found_after_allocation hit_limit three_tags 3 0 1 refl three_image no_id refl written refl only
   where
     written : (i : ℕ) → i < 3 → get_or three_image i 0 ≡ get_or (allocated_tags hit_limit three_tags 3 0) i 0
     written zero l = refl

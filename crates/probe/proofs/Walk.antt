@@ -49,18 +49,18 @@ module _ (p : ℕ → Bool) (n h : ℕ) where
   pub passed_none : (s : ℕ) → Passed p n h s s
   passed_none s j l m = absurd (omega arith)
 
-  pub passed-more : (s k : ℕ) → Passed p n h s k → p (visit n h k) ≡ false → Passed p n h s (k + 1)
-  passed-more s k h₁ e j l m = go (ℕ_discrete j k)
+  pub passed_more : (s k : ℕ) → Passed p n h s k → p (visit n h k) ≡ false → Passed p n h s (k + 1)
+  passed_more s k h₁ e j l m = go (ℕ_discrete j k)
     where
       go : Dec (j ≡ k) → p (visit n h j) ≡ false
       go (yes q) = ap (λ (i : ℕ). p (visit n h i)) q ∙ e
       go (no q) = h₁ j l (omega arith)
 
   -- the test passes at visit k, and at none before
-  pub stop-here : (s m k : ℕ) → s ≤ k → k < s + m → Passed p n h s k → p (visit n h k) ≡ true → first_stop p s (visits n h s m) ≡ stop_at (visit n h k) k
+  pub stop_here : (s m k : ℕ) → s ≤ k → k < s + m → Passed p n h s k → p (visit n h k) ≡ true → first_stop p s (visits n h s m) ≡ stop_at (visit n h k) k
   unfolding first_stop visits
-  stop-here s zero k l q a e = absurd (omega arith)
-  stop-here s (suc m) k l q a e = go (ℕ_discrete s k) (λ (d : suc s ≤ k). stop-here (suc s) m k d (omega arith) (λ j x y. a j (omega arith) y) e)
+  stop_here s zero k l q a e = absurd (omega arith)
+  stop_here s (suc m) k l q a e = go (ℕ_discrete s k) (λ (d : suc s ≤ k). stop_here (suc s) m k d (omega arith) (λ j x y. a j (omega arith) y) e)
     where
       go : Dec (s ≡ k) → (suc s ≤ k → first_stop p (suc s) (visits n h (suc s) m) ≡ stop_at (visit n h k) k)
           → cond (p (visit n h s)) (stop_at (visit n h s) s) (first_stop p (suc s) (visits n h (suc s) m)) ≡ stop_at (visit n h k) k
@@ -70,18 +70,18 @@ module _ (p : ℕ → Bool) (n h : ℕ) where
           ap (λ (t : Bool). cond t (stop_at (visit n h s) s) (first_stop p (suc s) (visits n h (suc s) m))) (a s (omega arith) less) ∙ rec less
 
   -- the test passes at none of the visits
-  pub stop-never : (s m : ℕ) → Passed p n h s (s + m) → first_stop p s (visits n h s m) ≡ nowhere
+  pub stop_never : (s m : ℕ) → Passed p n h s (s + m) → first_stop p s (visits n h s m) ≡ nowhere
   unfolding first_stop visits
-  stop-never s zero a = refl
-  stop-never s (suc m) a =
+  stop_never s zero a = refl
+  stop_never s (suc m) a =
       ap (λ (t : Bool). cond t (stop_at (visit n h s) s) (first_stop p (suc s) (visits n h (suc s) m))) (a s (omega arith) (omega arith))
-      ∙ stop-never (suc s) m (λ j x y. a j (omega arith) (omega arith))
+      ∙ stop_never (suc s) m (λ j x y. a j (omega arith) (omega arith))
 
   -- where a walk stopped nowhere, the test passes at none of the visits
-  pub never-told : (s m : ℕ) → first_stop p s (visits n h s m) ≡ nowhere → Passed p n h s (s + m)
+  pub never_told : (s m : ℕ) → first_stop p s (visits n h s m) ≡ nowhere → Passed p n h s (s + m)
   unfolding first_stop visits
-  never-told s zero e j l q = absurd (omega arith)
-  never-told s (suc m) e j l q = go (p (visit n h s)) refl e (never-told (suc s) m) (ℕ_discrete s j)
+  never_told s zero e j l q = absurd (omega arith)
+  never_told s (suc m) e j l q = go (p (visit n h s)) refl e (never_told (suc s) m) (ℕ_discrete s j)
     where
       go : (t : Bool) → p (visit n h s) ≡ t → cond t (stop_at (visit n h s) s) (first_stop p (suc s) (visits n h (suc s) m)) ≡ nowhere
           → (first_stop p (suc s) (visits n h (suc s) m) ≡ nowhere → Passed p n h (suc s) (suc s + m)) → Dec (s ≡ j) → p (visit n h j) ≡ false
@@ -90,10 +90,10 @@ module _ (p : ℕ → Bool) (n h : ℕ) where
       go false a d rec (no i) = rec d j (omega arith) (omega arith)
 
   -- where a walk stopped, the test passes first
-  pub stop-told : (s m b k : ℕ) → first_stop p s (visits n h s m) ≡ stop_at b k → Stopped p n h s m b k
+  pub stop_told : (s m b k : ℕ) → first_stop p s (visits n h s m) ≡ stop_at b k → Stopped p n h s m b k
   unfolding first_stop visits
-  stop-told s zero b k e = let z : ◌≡◌ {A = ℕ} 0 1 = cc in absurd (omega arith)
-  stop-told s (suc m) b k e = go (p (visit n h s)) refl e (stop-told (suc s) m b k)
+  stop_told s zero b k e = let z : ◌≡◌ {A = ℕ} 0 1 = cc in absurd (omega arith)
+  stop_told s (suc m) b k e = go (p (visit n h s)) refl e (stop_told (suc s) m b k)
     where
       go : (t : Bool) → p (visit n h s) ≡ t → cond t (stop_at (visit n h s) s) (first_stop p (suc s) (visits n h (suc s) m)) ≡ stop_at b k
           → (first_stop p (suc s) (visits n h (suc s) m) ≡ stop_at b k → Stopped p n h (suc s) m b k) → Stopped p n h s (suc m) b k
@@ -147,20 +147,20 @@ module _ (test : ℕ → Bool) (len n h s : ℕ) where
       }
 
   module _ (p : ProbeSequence) (w : Walking test len n h s p) where
-    pub walk-ready : (end : ℕ) → end ≡ s + 2 * n → Ready len n h end p
-    walk-ready end e = (w.some, w.few, w.room, omega (arith, w.early), omega (arith, w.within), w.stand)
+    pub walk_ready : (end : ℕ) → end ≡ s + 2 * n → Ready len n h end p
+    walk_ready end e = (w.some, w.few, w.room, omega (arith, w.early), omega (arith, w.within), w.stand)
 
-    pub walk-below : (p.bucket < n) × (p.step < n)
-    walk-below = stands_below n h p w.some w.stand
+    pub walk_below : (p.bucket < n) × (p.step < n)
+    walk_below = stands_below n h p w.some w.stand
 
     -- the walk stops here
-    pub walk-stop : p.visit < s + 2 * n → test p.bucket ≡ true → first_stop test s (path_from n h s) ≡ stop_at p.bucket p.visit
-    walk-stop l e =
-        stop-here test n h s (2 * n) p.visit w.from l w.passed (ap test (sym w.stand.0) ∙ e) ∙ ap (λ (b : ℕ). stop_at b p.visit) (sym w.stand.0)
+    pub walk_stop : p.visit < s + 2 * n → test p.bucket ≡ true → first_stop test s (path_from n h s) ≡ stop_at p.bucket p.visit
+    walk_stop l e =
+        stop_here test n h s (2 * n) p.visit w.from l w.passed (ap test (sym w.stand.0) ∙ e) ∙ ap (λ (b : ℕ). stop_at b p.visit) (sym w.stand.0)
 
     -- or makes a step
-    pub walk-next : (q : ProbeSequence) → p.visit < s + 2 * n → test p.bucket ≡ false → Stepped n p q → Walking test len n h s q
-    walk-next q l e d =
+    pub walk_next : (q : ProbeSequence) → p.visit < s + 2 * n → test p.bucket ≡ false → Stepped n p q → Walking test len n h s q
+    walk_next q l e d =
         record {
           some = w.some;
           few = w.few;
@@ -169,13 +169,13 @@ module _ (test : ℕ → Bool) (len n h s : ℕ) where
           from = omega (arith, d.0, w.from);
           within = omega (arith, d.0);
           stand = stands_next n h p q w.stand d;
-          passed = subst (Passed test n h s) (sym d.0) (passed-more test n h s p.visit w.passed (ap test (sym w.stand.0) ∙ e));
+          passed = subst (Passed test n h s) (sym d.0) (passed_more test n h s p.visit w.passed (ap test (sym w.stand.0) ∙ e));
         }
 
     -- or goes to the next empty, tombstone or hit, where the test passes at no other tag
-    pub walk-met : (ts : List ℕ) (end : ℕ) (r : ProbeSequence) → end ≡ s + 2 * n → ((b : ℕ) → test b ≡ true → stops_probe ts h b ≡ true) → Met ts n h end p r
+    pub walk_met : (ts : List ℕ) (end : ℕ) (r : ProbeSequence) → end ≡ s + 2 * n → ((b : ℕ) → test b ≡ true → stops_probe ts h b ≡ true) → Met ts n h end p r
         → Walking test len n h s r
-    walk-met ts end r e stops m =
+    walk_met ts end r e stops m =
         record {
           some = w.some;
           few = w.few;
@@ -199,4 +199,4 @@ module _ (test : ℕ → Bool) (len n h s : ℕ) where
     pub walk_end : s + 2 * n ≤ p.visit → first_stop test s (path_from n h s) ≡ nowhere
     walk_end l =
         let e : p.visit ≡ s + 2 * n = omega (arith, w.within) in
-        stop-never test n h s (2 * n) (subst (Passed test n h s) e w.passed)
+        stop_never test n h s (2 * n) (subst (Passed test n h s) e w.passed)

@@ -36,57 +36,57 @@ check_start rule n log = record { inside = refl; stop = refl; count = sym (zero-
 
 module _ (rule : AfterEnd) (n : ℕ) (log : List ℕ) (at updates : ℕ) (st : CheckState rule n log at updates) where
   -- an entry inside the table
-  pub check-entry : (e : Entry) (p : ℕ) → next_by rule (edition_at log) log at ≡ next e p → bucket_of e < n → at + 9 ≤ p → CheckState rule n log p (updates + one_update e)
+  pub check_entry : (e : Entry) (p : ℕ) → next_by rule (edition_at log) log at ≡ next e p → bucket_of e < n → at + 9 ≤ p → CheckState rule n log p (updates + one_update e)
   unfolding all_inside updates_in
-  check-entry e p h l moved =
+  check_entry e p h l moved =
       let r : read_from rule (edition_at log) log at ≡ and_then e (read_from rule (edition_at log) log p) = read_entry_lem rule (edition_at log) log at e p h in
       record {
         inside = st.inside ∙ ap (λ (x : Reading). all_inside n x.entries) r ∙ ap (λ (t : Bool). t && all_inside n (read_from rule (edition_at log) log p).entries) (lt-ltb (bucket_of e) n l);
         stop = st.stop ∙ ap (λ (x : Reading). x.stop) r;
         count = st.count ∙ ap (λ (x : Reading). updates + updates_in x.entries) r ∙ sym (add_assoc updates (one_update e) (updates_in (read_from rule (edition_at log) log p).entries));
-        few = omega (arith, st.few, one-update e);
+        few = omega (arith, st.few, one_update_lem e);
       }
     where
-      one-update : (x : Entry) → one_update x ≤ 1
-      one-update (clear b) = omega arith
-      one-update (update id ws ns el b) = omega arith
+      one_update_lem : (x : Entry) → one_update x ≤ 1
+      one_update_lem (clear b) = omega arith
+      one_update_lem (update id ws ns el b) = omega arith
 
   -- an entry outside it
-  pub check-outside : (hashes : ℕ) (e : Entry) (p : ℕ) → next_by rule (edition_at log) log at ≡ next e p → n ≤ bucket_of e → check_answer rule n log hashes ≡ refused 9
+  pub check_outside : (hashes : ℕ) (e : Entry) (p : ℕ) → next_by rule (edition_at log) log at ≡ next e p → n ≤ bucket_of e → check_answer rule n log hashes ≡ refused 9
   unfolding check_answer all_inside
-  check-outside hashes e p h l =
+  check_outside hashes e p h l =
       ap (λ (t : Bool). cond t (after_entries (read_log rule log).stop (hashes_fit hashes (updates_in (read_log rule log).entries))) (refused 9))
       (st.inside ∙ ap (λ (x : Reading). all_inside n x.entries) (read_entry_lem rule (edition_at log) log at e p h) ∙ ap (λ (t : Bool). t && all_inside n (read_from rule (edition_at log) log p).entries) (le-ltb (bucket_of e) n l))
 
   -- where the reading stops
-  at-stop : (hashes : ℕ) (a : Answer (Unit {0})) → read_from rule (edition_at log) log at ≡ stop_at at a → check_answer rule n log hashes ≡ after_entries a (hashes_fit hashes updates)
+  at_stop : (hashes : ℕ) (a : Answer (Unit {0})) → read_from rule (edition_at log) log at ≡ stop_at at a → check_answer rule n log hashes ≡ after_entries a (hashes_fit hashes updates)
   unfolding check_answer all_inside updates_in
-  at-stop hashes a r =
+  at_stop hashes a r =
       let z : updates + 0 ≡ updates = omega arith in
       ap (λ (t : Bool). cond t (after_entries (read_log rule log).stop (hashes_fit hashes (updates_in (read_log rule log).entries))) (refused 9)) (st.inside ∙ ap (λ (x : Reading). all_inside n x.entries) r)
       ∙ ap₂ (λ (s : Answer (Unit {0})) (u : ℕ). after_entries s (hashes_fit hashes u)) (st.stop ∙ ap (λ (x : Reading). x.stop) r) (st.count ∙ ap (λ (x : Reading). updates + updates_in x.entries) r ∙ z)
 
-  pub check-stop : (hashes : ℕ) (h : Head) → head_said h ≡ head_of (next_by rule (edition_at log) log at) → OneOf (1 ∷ 2 ∷ 3 ∷ []) (tag_of HeadT.the_type h) → OneOf (0 ∷ 2 ∷ 3 ∷ []) (tag_of HeadT.the_type h)
+  pub check_stop_lem : (hashes : ℕ) (h : Head) → head_said h ≡ head_of (next_by rule (edition_at log) log at) → OneOf (1 ∷ 2 ∷ 3 ∷ []) (tag_of HeadT.the_type h) → OneOf (0 ∷ 2 ∷ 3 ∷ []) (tag_of HeadT.the_type h)
       → check_answer rule n log hashes ≡ check_stop (head_said h) updates hashes
-  check-stop hashes (head.Clear b p) e o q = absurd (none 0 refl o)
+  check_stop_lem hashes (head.Clear b p) e o q = absurd (none 0 refl o)
     where
       none : (t : ℕ) → t ≡ 0 → (t ≡ 1) ⊎ ((t ≡ 2) ⊎ (t ≡ 3)) → ⊥
       none t z = ⊎_elim (λ (x : t ≡ 1). omega arith) (⊎_elim (λ (x : t ≡ 2). omega arith) (λ (x : t ≡ 3). omega arith))
-  check-stop hashes (head.Update b c p) e o q = absurd (none 1 refl q)
+  check_stop_lem hashes (head.Update b c p) e o q = absurd (none 1 refl q)
     where
       none : (t : ℕ) → t ≡ 1 → (t ≡ 0) ⊎ ((t ≡ 2) ⊎ (t ≡ 3)) → ⊥
       none t z = ⊎_elim (λ (x : t ≡ 0). omega arith) (⊎_elim (λ (x : t ≡ 2). omega arith) (λ (x : t ≡ 3). omega arith))
-  check-stop hashes head.End e o q = at-stop hashes (given tt) (read_end rule (edition_at log) log at (head_end (next_by rule (edition_at log) log at) e))
-  check-stop hashes (head.Refused r) e o q = at-stop hashes (refused (number_of r)) (read_stop rule (edition_at log) log at (number_of r) (head_stop (next_by rule (edition_at log) log at) (number_of r) e))
+  check_stop_lem hashes head.End e o q = at_stop hashes (given tt) (read_end rule (edition_at log) log at (head_end (next_by rule (edition_at log) log at) e))
+  check_stop_lem hashes (head.Refused r) e o q = at_stop hashes (refused (number_of r)) (read_stop rule (edition_at log) log at (number_of r) (head_stop (next_by rule (edition_at log) log at) (number_of r) e))
 
 -- the update that a head stands for, and its bucket
 pub there_bucket : (rule : AfterEnd) (ed : Edition) (log : List ℕ) (at b c p : ℕ) → There rule ed log at b c p → bucket_of (update_of log (at + mark_size ed)) ≡ b
 unfolding update_of
 there_bucket rule ed log at b c p t = ap (λ (k : ℕ). le (block 8 log (at + mark_size ed + 56 + 32 * k))) (sym t.count) ∙ sym t.bucket
 
-pub there-one : (ed : Edition) (log : List ℕ) (at : ℕ) → one_update (update_of log (at + mark_size ed)) ≡ 1
+pub there_one : (ed : Edition) (log : List ℕ) (at : ℕ) → one_update (update_of log (at + mark_size ed)) ≡ 1
 unfolding update_of
-there-one ed log at = refl
+there_one ed log at = refl
 
 -- the update by its parts, with the head's bucket and count
 pub there_entry : (rule : AfterEnd) (ed : Edition) (log : List ℕ) (at b c p : ℕ) → There rule ed log at b c p → update_of log (at + mark_size ed) ≡ update (block 32 log (at + mark_size ed)) (diff_at log (at + mark_size ed)) (nodes_from log (at + mark_size ed + 48) c) (block 8 log (at + mark_size ed + 48 + 32 * c)) b

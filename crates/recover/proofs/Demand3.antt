@@ -10,15 +10,15 @@ use lib.ListN.{length, get_or, take}
 use Rattle.blocks.proofs.Laws.{tabulate-length, tabulate-get_or, tabulate_is}
 use Rattle.wal.specs.Log.{clear}
 use Rattle.recover.specs.Places.{Step, entry_names, names, gives, named_in, value_at, replayed, stepped}
-use Rattle.recover.specs.Replay.{OnlyNamed, LastGiven, Mix, Stopped, untouched, part-applied, mixed}
+use Rattle.recover.specs.Replay.{OnlyNamed, LastGiven, Mix, Stopped, untouched, part_applied, mixed}
 
 -- ---- the value at one place
 module _ (n : ℕ) (j : ℕ) where
   -- a named place has the value that the log gives it, whatever stood there
-  pub value-named : (ss : List Step) (a b : ℕ) → named_in n ss j ≡ true → value_at n ss a j ≡ value_at n ss b j
+  pub value_named : (ss : List Step) (a b : ℕ) → named_in n ss j ≡ true → value_at n ss a j ≡ value_at n ss b j
   unfolding named_in value_at
-  value-named [] a b e = absurd (true≢false (sym e))
-  value-named (s ∷ ss) a b e = go (named_in n ss j) refl (names n s j) refl (λ h. value-named ss a b h)
+  value_named [] a b e = absurd (true≢false (sym e))
+  value_named (s ∷ ss) a b e = go (named_in n ss j) refl (names n s j) refl (λ h. value_named ss a b h)
     where
       go : (t : Bool) → named_in n ss j ≡ t → (u : Bool) → names n s j ≡ u → (named_in n ss j ≡ true → value_at n ss a j ≡ value_at n ss b j)
           → cond (named_in n ss j) (value_at n ss a j) (cond (names n s j) (gives n s j) a) ≡ cond (named_in n ss j) (value_at n ss b j) (cond (names n s j) (gives n s j) b)
@@ -28,10 +28,10 @@ module _ (n : ℕ) (j : ℕ) where
       go false p false q r = absurd (true≢false (sym e ∙ ap₂ (λ (t u : Bool). t || u) q p))
 
   -- every other place keeps what stood there
-  pub value-other : (ss : List Step) (was : ℕ) → named_in n ss j ≡ false → value_at n ss was j ≡ was
+  pub value_other : (ss : List Step) (was : ℕ) → named_in n ss j ≡ false → value_at n ss was j ≡ was
   unfolding named_in value_at
-  value-other [] was e = refl
-  value-other (s ∷ ss) was e = go (names n s j) refl (named_in n ss j) refl
+  value_other [] was e = refl
+  value_other (s ∷ ss) was e = go (names n s j) refl (named_in n ss j) refl
     where
       go : (u : Bool) → names n s j ≡ u → (t : Bool) → named_in n ss j ≡ t → cond (named_in n ss j) (value_at n ss was j) (cond (names n s j) (gives n s j) was) ≡ was
       go true q t p = absurd (true≢false (sym (ap (λ (u : Bool). u || named_in n ss j) q) ∙ e))
@@ -39,10 +39,10 @@ module _ (n : ℕ) (j : ℕ) where
       go false q false p = ap₂ (λ (u t : Bool). cond t (value_at n ss was j) (cond u (gives n s j) was)) q p
 
   -- and it is the last such value
-  pub value-last : (ss : List Step) (was : ℕ) → named_in n ss j ≡ true → LastGiven n ss j (value_at n ss was j)
+  pub value_last : (ss : List Step) (was : ℕ) → named_in n ss j ≡ true → LastGiven n ss j (value_at n ss was j)
   unfolding named_in value_at
-  value-last [] was e = absurd (true≢false (sym e))
-  value-last (s ∷ ss) was e = go (named_in n ss j) refl (λ h. value-last ss was h)
+  value_last [] was e = absurd (true≢false (sym e))
+  value_last (s ∷ ss) was e = go (named_in n ss j) refl (λ h. value_last ss was h)
     where
       go : (t : Bool) → named_in n ss j ≡ t → (named_in n ss j ≡ true → LastGiven n ss j (value_at n ss was j))
           → LastGiven n (s ∷ ss) j (cond (named_in n ss j) (value_at n ss was j) (cond (names n s j) (gives n s j) was))
@@ -70,16 +70,16 @@ module _ (n : ℕ) (j : ℕ) where
           }
 
   -- the entries one after the other: the first one's value, and then the rest
-  pub value-step : (s : Step) (ss : List Step) (was : ℕ) → value_at n (s ∷ ss) was j ≡ value_at n ss (cond (names n s j) (gives n s j) was) j
+  pub value_step : (s : Step) (ss : List Step) (was : ℕ) → value_at n (s ∷ ss) was j ≡ value_at n ss (cond (names n s j) (gives n s j) was) j
   unfolding value_at
-  value-step s ss was = go (named_in n ss j) refl
+  value_step s ss was = go (named_in n ss j) refl
     where
       first : ℕ
       first = cond (names n s j) (gives n s j) was
 
       go : (t : Bool) → named_in n ss j ≡ t → cond (named_in n ss j) (value_at n ss was j) first ≡ value_at n ss first j
-      go true p = ap (λ (t : Bool). cond t (value_at n ss was j) first) p ∙ value-named ss was first p
-      go false p = ap (λ (t : Bool). cond t (value_at n ss was j) first) p ∙ sym (value-other ss first p)
+      go true p = ap (λ (t : Bool). cond t (value_at n ss was j) first) p ∙ value_named ss was first p
+      go false p = ap (λ (t : Bool). cond t (value_at n ss was j) first) p ∙ sym (value_other ss first p)
 
   -- fewer entries name no more
   named-take : (k : ℕ) (ss : List Step) → named_in n ss j ≡ false → named_in n (take k ss) j ≡ false
@@ -99,51 +99,51 @@ module _ (n : ℕ) (ss : List Step) where
   replayed-length image = tabulate-length (λ j. value_at n ss (get_or image j 0) j) (length image)
 
   -- 1. each place has the last value that the log gives it, or what stood there
-  pub replayed-at : (image : List ℕ) (j : ℕ) → j < length image → get_or (replayed n ss image) j 0 ≡ value_at n ss (get_or image j 0) j
+  pub replayed_at : (image : List ℕ) (j : ℕ) → j < length image → get_or (replayed n ss image) j 0 ≡ value_at n ss (get_or image j 0) j
   unfolding replayed
-  replayed-at image j h = tabulate-get_or (λ i. value_at n ss (get_or image i 0) i) (length image) j h
+  replayed_at image j h = tabulate-get_or (λ i. value_at n ss (get_or image i 0) i) (length image) j h
 
-  pub replayed-other : (image : List ℕ) (j : ℕ) → j < length image → named_in n ss j ≡ false → get_or (replayed n ss image) j 0 ≡ get_or image j 0
-  replayed-other image j h e = replayed-at image j h ∙ value-other n j ss (get_or image j 0) e
+  pub replayed_other : (image : List ℕ) (j : ℕ) → j < length image → named_in n ss j ≡ false → get_or (replayed n ss image) j 0 ≡ get_or image j 0
+  replayed_other image j h e = replayed_at image j h ∙ value_other n j ss (get_or image j 0) e
 
   -- what is equal at each place to replay's image is that image
-  pub replayed-is : (image out : List ℕ) → length out ≡ length image → ((j : ℕ) → j < length image → get_or out j 0 ≡ value_at n ss (get_or image j 0) j) → out ≡ replayed n ss image
+  pub replayed_is : (image out : List ℕ) → length out ≡ length image → ((j : ℕ) → j < length image → get_or out j 0 ≡ value_at n ss (get_or image j 0) j) → out ≡ replayed n ss image
   unfolding replayed
-  replayed-is image out l f = tabulate_is (λ j. value_at n ss (get_or image j 0) j) (length image) out l f
+  replayed_is image out l f = tabulate_is (λ j. value_at n ss (get_or image j 0) j) (length image) out l f
 
   -- 2. one and the same image for the table and for an image that differs from it only in named places
   pub same_end : (table image : List ℕ) → OnlyNamed n ss table image → replayed n ss image ≡ replayed n ss table
   same_end table image d =
-      replayed-is table (replayed n ss image) (replayed-length image ∙ d.long) (λ j h. replayed-at image j (subst (λ (l : ℕ). j < l) (sym d.long) h) ∙ go j h (named_in n ss j) refl)
+      replayed_is table (replayed n ss image) (replayed-length image ∙ d.long) (λ j h. replayed_at image j (subst (λ (l : ℕ). j < l) (sym d.long) h) ∙ go j h (named_in n ss j) refl)
     where
       go : (j : ℕ) → j < length table → (b : Bool) → named_in n ss j ≡ b → value_at n ss (get_or image j 0) j ≡ value_at n ss (get_or table j 0) j
-      go j h true e = value-named n j ss (get_or image j 0) (get_or table j 0) e
+      go j h true e = value_named n j ss (get_or image j 0) (get_or table j 0) e
       go j h false e = ap (λ (v : ℕ). value_at n ss v j) (d.others j h e)
 
 -- 3. stops: any number of applied entries, and any bytewise mix, change named places only
 module _ (n : ℕ) (ss : List Step) (table : List ℕ) where
-  pub part-only : (image : List ℕ) (k : ℕ) → OnlyNamed n ss table image → OnlyNamed n ss table (replayed n (take k ss) image)
-  part-only image k d =
+  pub part_only : (image : List ℕ) (k : ℕ) → OnlyNamed n ss table image → OnlyNamed n ss table (replayed n (take k ss) image)
+  part_only image k d =
       record {
         long = replayed-length n (take k ss) image ∙ d.long;
-        others = λ j h e. replayed-other n (take k ss) image j (subst (λ (l : ℕ). j < l) (sym d.long) h) (named-take n j k ss e) ∙ d.others j h e;
+        others = λ j h e. replayed_other n (take k ss) image j (subst (λ (l : ℕ). j < l) (sym d.long) h) (named-take n j k ss e) ∙ d.others j h e;
       }
 
-  pub mix-only : (a b image : List ℕ) → OnlyNamed n ss table a → OnlyNamed n ss table b → Mix a b image → OnlyNamed n ss table image
-  mix-only a b image d e m =
+  pub mix_only : (a b image : List ℕ) → OnlyNamed n ss table a → OnlyNamed n ss table b → Mix a b image → OnlyNamed n ss table image
+  mix_only a b image d e m =
       record {
         long = m.long ∙ d.long;
         others = λ j h q. ⊎_elim (λ p. p ∙ d.others j h q) (λ p. p ∙ e.others j h q) (m.each j (subst (λ (l : ℕ). j < l) (sym d.long) h));
       }
 
-  pub stopped-only : {image : List ℕ} → Stopped n ss table image → OnlyNamed n ss table image
-  stopped-only untouched = record { long = refl; others = λ j h q. refl }
-  stopped-only (part-applied image k s) = part-only image k (stopped-only s)
-  stopped-only (mixed a b image s t m) = mix-only a b image (stopped-only s) (stopped-only t) m
+  pub stopped_only : {image : List ℕ} → Stopped n ss table image → OnlyNamed n ss table image
+  stopped_only untouched = record { long = refl; others = λ j h q. refl }
+  stopped_only (part_applied image k s) = part_only image k (stopped_only s)
+  stopped_only (mixed a b image s t m) = mix_only a b image (stopped_only s) (stopped_only t) m
 
 -- 4. replay's image itself differs from the table only in named places, so replaying twice is replaying once
 pub replayed_only : (n : ℕ) (ss : List Step) (table : List ℕ) → OnlyNamed n ss table (replayed n ss table)
-replayed_only n ss table = record { long = replayed-length n ss table; others = λ j h e. replayed-other n ss table j h e }
+replayed_only n ss table = record { long = replayed-length n ss table; others = λ j h e. replayed_other n ss table j h e }
 
 pub replayed_twice : (n : ℕ) (ss : List Step) (table : List ℕ) → replayed n ss (replayed n ss table) ≡ replayed n ss table
 replayed_twice n ss table = same_end n ss table (replayed n ss table) (replayed_only n ss table)
@@ -151,7 +151,7 @@ replayed_twice n ss table = same_end n ss table (replayed n ss table) (replayed_
 -- ---- entry by entry, as the code goes
 pub replayed_none : (n : ℕ) (image : List ℕ) → image ≡ replayed n [] image
 unfolding value_at
-replayed_none n image = replayed-is n [] image image refl (λ j h. refl)
+replayed_none n image = replayed_is n [] image image refl (λ j h. refl)
 
 pub stepped-length : (n : ℕ) (s : Step) (image : List ℕ) → length (stepped n s image) ≡ length image
 stepped-length n s image = tabulate-length (λ j. cond (names n s j) (gives n s j) (get_or image j 0)) (length image)
@@ -165,9 +165,9 @@ stepped_other n s image j h e = stepped_at n s image j h ∙ ap (λ (b : Bool). 
 
 pub replayed_step : (n : ℕ) (s : Step) (ss : List Step) (image : List ℕ) → replayed n (s ∷ ss) image ≡ replayed n ss (stepped n s image)
 replayed_step n s ss image =
-    replayed-is n ss (stepped n s image) (replayed n (s ∷ ss) image) (replayed-length n (s ∷ ss) image ∙ sym (stepped-length n s image))
+    replayed_is n ss (stepped n s image) (replayed n (s ∷ ss) image) (replayed-length n (s ∷ ss) image ∙ sym (stepped-length n s image))
     (λ j h. let l : j < length image = subst (λ (m : ℕ). j < m) (stepped-length n s image) h in
-    replayed-at n (s ∷ ss) image j l ∙ value-step n j s ss (get_or image j 0) ∙ ap (λ (v : ℕ). value_at n ss v j) (sym (stepped_at n s image j l)))
+    replayed_at n (s ∷ ss) image j l ∙ value_step n j s ss (get_or image j 0) ∙ ap (λ (v : ℕ). value_at n ss v j) (sym (stepped_at n s image j l)))
 
 -- the entries in two parts: the first part, and then the rest
 pub replayed-append : (n : ℕ) (ss ts : List Step) (image : List ℕ) → replayed n (ss ++ ts) image ≡ replayed n ts (replayed n ss image)
@@ -181,6 +181,6 @@ replayed-snoc n ss s image =
     replayed-append n ss (s ∷ []) image ∙ replayed_step n s [] (replayed n ss image) ∙ sym (replayed_none n (stepped n s (replayed n ss image)))
 
 -- "A clear sets the tag alone": it names no other place, so it undoes no slot of an earlier update
-pub clear-names_tag : (n b j : ℕ) → entry_names n (clear b) j ≡ eqb j b
+pub clear_names_tag : (n b j : ℕ) → entry_names n (clear b) j ≡ eqb j b
 unfolding entry_names
-clear-names_tag n b j = refl
+clear_names_tag n b j = refl

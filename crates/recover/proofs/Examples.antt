@@ -23,16 +23,16 @@ use Rattle.wal.specs.declared.AfterEnd.{AfterEnd}
 use Rattle.wal.specs.declared.AfterEnd.TheVariants.{Zeros, Tolerant}
 use Rattle.wal.specs.declared.Edition.TheVariants.{One}
 use Rattle.wal.proofs.Examples.{seed, log_two_lem}
-use Rattle.wal.proofs.RoundTrip.{AllWellFormed, none, more, log-length, start_back, entries-back}
+use Rattle.wal.proofs.RoundTrip.{AllWellFormed, none, more, log-length, start_back, entries_back}
 use Rattle.recover.specs.Places.{Step, with_hashes, names, gives, replayed, value_at, named_in, entry_names, entry_gives}
 use Rattle.recover.specs.Replay.{Did, nothing, stale, applied, all_inside, updates_in, check_answer, replay_tests, replay_answer, replay_image, steps_of, Went, cleared, updated, at_end, step_answer, step_image, stepped_said, recovered_said, Own, OnlyNamed}
 use Rattle.recover.specs.Calls.{calls, Cut, uncut, cut_inside}
-use Rattle.recover.proofs.Acceptance.{replay-accepts, replay-applies, stale_leaves}
-use Rattle.recover.proofs.Cuts.{calls-make, cut-stopped}
-use Rattle.recover.proofs.Demand3.{replayed-at, stepped_at, stopped-only}
-use Rattle.recover.proofs.OneImage.{applied_image, demand-3}
-use Rattle.recover.proofs.Replays.{other-sync, replay-started}
-use Rattle.recover.proofs.Steps.{step-taken}
+use Rattle.recover.proofs.Acceptance.{replay_accepts, replay_applies, stale_leaves}
+use Rattle.recover.proofs.Cuts.{calls_make, cut_stopped}
+use Rattle.recover.proofs.Demand3.{replayed_at, stepped_at, stopped_only}
+use Rattle.recover.proofs.OneImage.{applied_image, demand_3}
+use Rattle.recover.proofs.Replays.{other_sync, replay_started}
+use Rattle.recover.proofs.Steps.{step_taken}
 use Rattle.recover.specs.declared.Expected.{Expected}
 use Rattle.recover.specs.declared.Stepped.TheVariants as S
 use Rattle.recover.specs.declared.Recovered.TheVariants as R
@@ -90,10 +90,10 @@ entries = clear 0 ∷ []
 
 -- a start of edition one, and what replay expects of its log
 wide : WideStart (edition_one 7)
-wide = record { number = omega arith; seed-long = refl }
+wide = record { number = omega arith; seed_long = refl }
 
 own : Own (edition_one 7) (under 7)
-own = record { same-sync = refl; same_store = λ e. let z : ◌≡◌ {A = ℕ} 0 1 = cc in absurd (omega arith) }
+own = record { same_sync = refl; same_store = λ e. let z : ◌≡◌ {A = ℕ} 0 1 = cc in absurd (omega arith) }
 
 well : AllWellFormed entries
 well = more {e = clear 0} (omega arith) none
@@ -115,25 +115,25 @@ module _ (table : List ℕ) (long : length table ≡ 8192) (empty : get_or table
   fits : image_fits 1 (length table) ≡ true
   fits = ap (image_fits 1) long
 
-  tag-written : value_at 1 (with_hashes entries []) (get_or table 0 0) 0 ≡ 0x7F
+  tag_written_lem : value_at 1 (with_hashes entries []) (get_or table 0 0) 0 ≡ 0x7F
   unfolding with_hashes value_at named_in entry_names entry_gives
-  tag-written = refl
+  tag_written_lem = refl
 
-  under-7 : cleared_under table 7 ≡ (given applied, 0x7F)
-  under-7 =
-      ap₂ (λ (a : Answer Did) (v : ℕ). (a, v)) (replay-accepts Zeros 1 (edition_one 7) entries wide well inside (under 7) own table [] fits no_update)
-      (ap (λ (l : List ℕ). get_or l 0 0) (replay-applies Zeros 1 (edition_one 7) entries wide well inside (under 7) own table [] fits no_update) ∙ replayed-at 1 (with_hashes entries []) table 0 (omega arith) ∙ tag-written)
+  under_7 : cleared_under table 7 ≡ (given applied, 0x7F)
+  under_7 =
+      ap₂ (λ (a : Answer Did) (v : ℕ). (a, v)) (replay_accepts Zeros 1 (edition_one 7) entries wide well inside (under 7) own table [] fits no_update)
+      (ap (λ (l : List ℕ). get_or l 0 0) (replay_applies Zeros 1 (edition_one 7) entries wide well inside (under 7) own table [] fits no_update) ∙ replayed_at 1 (with_hashes entries []) table 0 (omega arith) ∙ tag_written_lem)
 
-  under-8 : cleared_under table 8 ≡ (given stale, 0)
-  under-8 =
+  under_8 : cleared_under table 8 ≡ (given stale, 0)
+  under_8 =
       let log : List ℕ = log_of (edition_one 7) entries in
       let said : given stale ≡ replay_answer Zeros 1 table log (under 8) [] =
-      other-sync Zeros 1 log 7 (under 8) 0 refl (λ z. omega arith)
-      ∙ replay-started Zeros 1 (length table) log (under 8) 0 fits (λ z. omega (arith, log-length (edition_one 7) entries wide)) (given 7) (start_back (edition_one 7) entries wide) in
+      other_sync Zeros 1 log 7 (under 8) 0 refl (λ z. omega arith)
+      ∙ replay_started Zeros 1 (length table) log (under 8) 0 fits (λ z. omega (arith, log-length (edition_one 7) entries wide)) (given 7) (start_back (edition_one 7) entries wide) in
       ap₂ (λ (a : Answer Did) (v : ℕ). (a, v)) (sym said) (ap (λ (l : List ℕ). get_or l 0 0) (stale_leaves Zeros 1 table log (under 8) [] (sym said)) ∙ empty)
 
   both : map (cleared_under table) (7 ∷ 8 ∷ []) ≡ (given applied, 0x7F) ∷ (given stale, 0) ∷ []
-  both = ap₂ (λ (a b : Answer Did × ℕ). a ∷ b ∷ []) under-7 under-8
+  both = ap₂ (λ (a b : Answer Did × ℕ). a ∷ b ∷ []) under_7 under_8
 
 -- "n=1, tag 0, log with sync 7 and clear 0: 0x7F under 7, stale under 8"
 pub replays : map (cleared_under (replicate 8192 0)) (7 ∷ 8 ∷ []) ≡ (given applied, 0x7F) ∷ (given stale, 0) ∷ []
@@ -162,7 +162,7 @@ cut_well =
     more
     {e = update (replicate 32 1) (1 ∷ 0 ∷ []) cut_nodes (replicate 8 2) 0}
     (record {
-      wide = record { change = record { id-long = refl; two-words = refl; low_word = omega arith; high_word = omega arith }; elided-long = refl; bucket = omega arith };
+      wide = record { change = record { id_long = refl; two_words = refl; low_word = omega arith; high_word = omega arith }; elided_long = refl; bucket = omega arith };
       plain = refl;
       counted = refl;
       rows = rows;
@@ -174,22 +174,22 @@ cut_well =
     rows (suc i) h = absurd (omega arith)
 
 cut_steps : steps_of cut_log (0 ∷ []) ≡ with_hashes cut_entries (0 ∷ [])
-cut_steps = ap (λ (r : Reading). with_hashes r.entries (0 ∷ [])) (entries-back (edition_one 7) cut_entries wide Tolerant cut_well)
+cut_steps = ap (λ (r : Reading). with_hashes r.entries (0 ∷ [])) (entries_back (edition_one 7) cut_entries wide Tolerant cut_well)
 
 long : length zeros ≡ 8192
 long = length-replicate {A = ℕ} 8192 0
 
 -- the log is accepted for the table
-pub cut-accepted : replay_answer Zeros 1 zeros cut_log (under 7) (0 ∷ []) ≡ given applied
+pub cut_accepted : replay_answer Zeros 1 zeros cut_log (under 7) (0 ∷ []) ≡ given applied
 unfolding all_inside updates_in
-cut-accepted = replay-accepts Zeros 1 (edition_one 7) cut_entries wide cut_well refl (under 7) own zeros (0 ∷ []) (ap (image_fits 1) long) refl
+cut_accepted = replay_accepts Zeros 1 (edition_one 7) cut_entries wide cut_well refl (under 7) own zeros (0 ∷ []) (ap (image_fits 1) long) refl
 
 -- the tag that the update's call writes
 cut_tag : get_or (calls Zeros 1 cut_log (0 ∷ []) zeros 1).image 0 0 ≡ 0x80
 unfolding with_hashes value_at named_in entry_names entry_gives
 cut_tag =
-    ap (λ (l : List ℕ). get_or l 0 0) (calls-make Zeros 1 zeros cut_log (under 7) (0 ∷ []) cut-accepted 1) ∙ ap (λ (ss : List Step). get_or (replayed 1 (take 1 ss) zeros) 0 0) cut_steps
-    ∙ replayed-at 1 (take 1 (with_hashes cut_entries (0 ∷ []))) zeros 0 (omega (arith, long))
+    ap (λ (l : List ℕ). get_or l 0 0) (calls_make Zeros 1 zeros cut_log (under 7) (0 ∷ []) cut_accepted 1) ∙ ap (λ (ss : List Step). get_or (replayed 1 (take 1 ss) zeros) 0 0) cut_steps
+    ∙ replayed_at 1 (take 1 (with_hashes cut_entries (0 ∷ []))) zeros 0 (omega (arith, long))
 
 -- the image is not the table's, and a stop inside the first call leaves it
 pub cut_differs : cut_image ≡ zeros → ⊥
@@ -206,14 +206,14 @@ cut_left = cut_inside zeros cut_image 0 uncut (record { long = ap suc (length-re
 
 -- so it differs from the table only in places that the log names
 pub cut_only : OnlyNamed 1 (steps_of cut_log (0 ∷ [])) zeros cut_image
-cut_only = stopped-only 1 (steps_of cut_log (0 ∷ [])) zeros (cut-stopped Zeros 1 zeros cut_log (under 7) (0 ∷ []) cut-accepted cut_left)
+cut_only = stopped_only 1 (steps_of cut_log (0 ∷ [])) zeros (cut_stopped Zeros 1 zeros cut_log (under 7) (0 ∷ []) cut_accepted cut_left)
 
 -- replay from there: applied; the clear's tag, the update's node in slot 0, the table's zeros in slot 1, the update's
 -- elided children and id
 cut_value : (j : ℕ) → j < 8192 → get_or (replay_image Zeros 1 cut_image cut_log (under 7) (0 ∷ [])) j 0 ≡ value_at 1 (with_hashes cut_entries (0 ∷ [])) (get_or zeros j 0) j
 cut_value j h =
-    ap (λ (l : List ℕ). get_or l j 0) ((demand-3 Zeros 1 zeros cut_log (under 7) (0 ∷ []) cut-accepted cut_image cut_only).1 ∙ applied_image Zeros 1 zeros cut_log (under 7) (0 ∷ []) cut-accepted)
-    ∙ ap (λ (ss : List Step). get_or (replayed 1 ss zeros) j 0) cut_steps ∙ replayed-at 1 (with_hashes cut_entries (0 ∷ [])) zeros j (omega (arith, long))
+    ap (λ (l : List ℕ). get_or l j 0) ((demand_3 Zeros 1 zeros cut_log (under 7) (0 ∷ []) cut_accepted cut_image cut_only).1 ∙ applied_image Zeros 1 zeros cut_log (under 7) (0 ∷ []) cut_accepted)
+    ∙ ap (λ (ss : List Step). get_or (replayed 1 ss zeros) j 0) cut_steps ∙ replayed_at 1 (with_hashes cut_entries (0 ∷ [])) zeros j (omega (arith, long))
 
 -- two functions that agree below 8,192 give the same list of places there
 abbrev all_below : List ℕ → Bool
@@ -235,7 +235,7 @@ pub cut_ends : (replay_answer Zeros 1 cut_image cut_log (under 7) (0 ∷ []) ≡
     × (map (λ j. get_or (replay_image Zeros 1 cut_image cut_log (under 7) (0 ∷ [])) j 0) places ≡ 0x7F ∷ 0 ∷ 5 ∷ 0 ∷ 0 ∷ 2 ∷ 2 ∷ 1 ∷ 1 ∷ [])
 unfolding with_hashes value_at named_in entry_names entry_gives slots_below marked digit
 cut_ends = (
-  (demand-3 Zeros 1 zeros cut_log (under 7) (0 ∷ []) cut-accepted cut_image cut_only).0,
+  (demand_3 Zeros 1 zeros cut_log (under 7) (0 ∷ []) cut_accepted cut_image cut_only).0,
   same_places (λ j. get_or (replay_image Zeros 1 cut_image cut_log (under 7) (0 ∷ [])) j 0) (λ j. value_at 1 (with_hashes cut_entries (0 ∷ [])) (get_or zeros j 0) j) cut_value places refl,
 )
 
@@ -245,7 +245,7 @@ unfolding entry_names entry_gives slots_below marked digit next_at block records
 step_ends =
     let e = update (replicate 32 1) (1 ∷ 0 ∷ []) cut_nodes (replicate 8 2) 0 in
     let s : Step = record { entry = e; hash = 2 ^ 57 } in
-    let stepped-image = (step-taken Zeros 1 zeros One cut_log 5 (2 ^ 57) (ap (image_fits 1) long) e 102 refl (omega arith)).1 in
+    let stepped-image = (step_taken Zeros 1 zeros One cut_log 5 (2 ^ 57) (ap (image_fits 1) long) e 102 refl (omega arith)).1 in
     same_places (λ j. get_or (step_image Zeros 1 zeros One cut_log 5 (2 ^ 57)) j 0) (λ j. cond (names 1 s j) (gives 1 s j) (get_or zeros j 0))
     (λ j h. ap (λ (l : List ℕ). get_or l j 0) (sym stepped-image) ∙ stepped_at 1 s zeros j (omega (arith, long))) places refl
 

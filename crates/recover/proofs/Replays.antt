@@ -26,46 +26,46 @@ module _ (rule : AfterEnd) (n : ℕ) (log : List ℕ) (s : ℕ) (want : Expected
   abbrev after : Answer Did
   after = after_start (given s) log want (check_answer rule n log hashes)
 
-  pub other-store : of_store log want.seed ≡ false → refused 26 ≡ after_start (given s) log want (check_answer rule n log hashes)
-  other-store e = sym (ap (λ (t : Bool). cond t (by_sync (eqb s want.sync) (check_answer rule n log hashes)) (refused 26)) e)
+  pub other_store : of_store log want.seed ≡ false → refused 26 ≡ after_start (given s) log want (check_answer rule n log hashes)
+  other_store e = sym (ap (λ (t : Bool). cond t (by_sync (eqb s want.sync) (check_answer rule n log hashes)) (refused 26)) e)
 
   module _ (of : of_store log want.seed ≡ true) where
-    in-store : after ≡ by_sync (eqb s want.sync) (check_answer rule n log hashes)
-    in-store = ap (λ (t : Bool). cond t (by_sync (eqb s want.sync) (check_answer rule n log hashes)) (refused 26)) of
+    in_store : after ≡ by_sync (eqb s want.sync) (check_answer rule n log hashes)
+    in_store = ap (λ (t : Bool). cond t (by_sync (eqb s want.sync) (check_answer rule n log hashes)) (refused 26)) of
 
-    pub other-sync : (s ≡ want.sync → ⊥) → given stale ≡ after_start (given s) log want (check_answer rule n log hashes)
-    other-sync d = sym (in-store ∙ ap (λ (t : Bool). by_sync t (check_answer rule n log hashes)) (ne_eqb s want.sync d) ∙ go (check_answer rule n log hashes))
+    pub other_sync : (s ≡ want.sync → ⊥) → given stale ≡ after_start (given s) log want (check_answer rule n log hashes)
+    other_sync d = sym (in_store ∙ ap (λ (t : Bool). by_sync t (check_answer rule n log hashes)) (ne_eqb s want.sync d) ∙ go (check_answer rule n log hashes))
       where
         go : (c : Answer (Unit {0})) → by_sync false c ≡ given stale
         go (given u) = refl
         go (refused m) = refl
 
     module _ (same : s ≡ want.sync) where
-      pub bad-entry : (k : ℕ) → check_answer rule n log hashes ≡ refused k → refused k ≡ after_start (given s) log want (check_answer rule n log hashes)
-      bad-entry k e = sym (in-store ∙ ap₂ by_sync (eq-eqb s want.sync same) e)
+      pub bad_entry : (k : ℕ) → check_answer rule n log hashes ≡ refused k → refused k ≡ after_start (given s) log want (check_answer rule n log hashes)
+      bad_entry k e = sym (in_store ∙ ap₂ by_sync (eq-eqb s want.sync same) e)
 
-      pub all-good : check_answer rule n log hashes ≡ given tt → given applied ≡ after_start (given s) log want (check_answer rule n log hashes)
-      all-good e = sym (in-store ∙ ap₂ by_sync (eq-eqb s want.sync same) e)
+      pub all_good : check_answer rule n log hashes ≡ given tt → given applied ≡ after_start (given s) log want (check_answer rule n log hashes)
+      all_good e = sym (in_store ∙ ap₂ by_sync (eq-eqb s want.sync same) e)
 
 module _ (rule : AfterEnd) (n image : ℕ) (log : List ℕ) (want : Expected) (hashes : ℕ) where
   abbrev began : Answer Did
   began = after_start (start_of log) log want (check_answer rule n log hashes)
 
-  pub replay-unfit : (m : ℕ) → if_table {A = Unit {0}} (image_fits n image) (given tt) ≡ refused m → refused m ≡ replay_tests rule n image log want hashes
+  pub replay_unfit : (m : ℕ) → if_table {A = Unit {0}} (image_fits n image) (given tt) ≡ refused m → refused m ≡ replay_tests rule n image log want hashes
   unfolding replay_tests
-  replay-unfit m e = table_unfit (image_fits n image) m (cond (eqb (length log) 0) (given nothing) began) e
+  replay_unfit m e = table_unfit (image_fits n image) m (cond (eqb (length log) 0) (given nothing) began) e
 
   module _ (fits : image_fits n image ≡ true) where
     fitting : replay_tests rule n image log want hashes ≡ cond (eqb (length log) 0) (given nothing) began
     unfolding replay_tests
     fitting = ap (λ (t : Bool). cond t (cond (eqb (length log) 0) (given nothing) began) (refused 1)) fits
 
-    pub replay-empty : length log ≡ 0 → given nothing ≡ replay_tests rule n image log want hashes
-    replay-empty e = sym (fitting ∙ ap (λ (t : Bool). cond t (given nothing) began) (eq-eqb (length log) 0 e))
+    pub replay_empty : length log ≡ 0 → given nothing ≡ replay_tests rule n image log want hashes
+    replay_empty e = sym (fitting ∙ ap (λ (t : Bool). cond t (given nothing) began) (eq-eqb (length log) 0 e))
 
     -- by what the start answers
-    pub replay-started : (length log ≡ 0 → ⊥) → (a : Answer ℕ) → start_of log ≡ a → after_start a log want (check_answer rule n log hashes) ≡ replay_tests rule n image log want hashes
-    replay-started some a e =
+    pub replay_started : (length log ≡ 0 → ⊥) → (a : Answer ℕ) → start_of log ≡ a → after_start a log want (check_answer rule n log hashes) ≡ replay_tests rule n image log want hashes
+    replay_started some a e =
         sym (fitting ∙ ap (λ (t : Bool). cond t (given nothing) began) (ne_eqb (length log) 0 some) ∙ ap (λ (x : Answer ℕ). after_start x log want (check_answer rule n log hashes)) e)
 
 -- `applied` is answered only where the image is a table's and the whole log was checked

@@ -28,7 +28,7 @@ use Rattle.recover.specs.declared.Stepped.{Stepped}
 use Rattle.recover.specs.declared.Stepped.TheVariants as S
 use Rattle.recover.specs.contracts.Stepped as SteppedT
 use Rattle.recover.proofs.Demand3.{replayed_none, replayed-snoc, replayed-length}
-use Rattle.recover.proofs.Steps.{step-taken, by_next_lem, image-by}
+use Rattle.recover.proofs.Steps.{step_taken, by_next_lem, image_by_lem}
 
 -- at the head of the loop: the first k entries are applied to the table, and what is read from here on are the others
 pub record RunState (rule : AfterEnd) (n : ℕ) (log hashes table image : List ℕ) (at used k : ℕ) : Type 0 where
@@ -93,9 +93,9 @@ module _ (rule : AfterEnd) (n : ℕ) (log hashes table image : List ℕ) (at use
 
 module _ (rule : AfterEnd) (n : ℕ) (log hashes table image : List ℕ) (at used : ℕ) {k : ℕ} (st : RunState rule n log hashes table image at used k) (fits : image_fits n (length image) ≡ true) where
   -- an entry is left: it is inside the table
-  entry-inside : (e : Entry) (p : ℕ) → next_by rule (edition_at log) log at ≡ next e p → (bucket_of e < n) × (all_inside n (read_from rule (edition_at log) log p).entries ≡ true)
+  entry_inside : (e : Entry) (p : ℕ) → next_by rule (edition_at log) log at ≡ next e p → (bucket_of e < n) × (all_inside n (read_from rule (edition_at log) log p).entries ≡ true)
   unfolding all_inside
-  entry-inside e p h =
+  entry_inside e p h =
       let both = both_hold (ltb (bucket_of e) n) (all_inside n (read_from rule (edition_at log) log p).entries) (sym (ap (λ (r : Reading). all_inside n r.entries) (read_entry_lem rule (edition_at log) log at e p h)) ∙ st.inside) in
       (ltb-true (bucket_of e) n both.0, both.1)
 
@@ -108,17 +108,17 @@ module _ (rule : AfterEnd) (n : ℕ) (log hashes table image : List ℕ) (at use
   steps = steps_of log hashes
 
   -- the entry that stands there is the next of them, its step taken with the hash that is lent for it; those after it are left
-  next-step : (e : Entry) (p used' : ℕ) → next_by rule (edition_at log) log at ≡ next e p → used' ≡ used + one_update e
+  next_step : (e : Entry) (p used' : ℕ) → next_by rule (edition_at log) log at ≡ next e p → used' ≡ used + one_update e
       → (stepped n (record { entry = e; hash = get_or hashes used 0 }) image ≡ replayed n (take (suc k) steps) table) × (drop (suc k) steps ≡ with_hashes (read_from rule (edition_at log) log p).entries (drop used' hashes))
   unfolding with_hashes
-  next-step (clear b) p used' h q =
+  next_step (clear b) p used' h q =
       let z : used ≡ used' = omega arith in
       let s : Step = record { entry = clear b; hash = 0 } in
       let m = one_more k steps s (with_hashes (read_from rule (edition_at log) log p).entries (drop used hashes)) (st.left ∙ ap (λ (r : Reading). with_hashes r.entries (drop used hashes)) (read_entry_lem rule (edition_at log) log at (clear b) p h)) in (
         any_hash n b (get_or hashes used 0) 0 image ∙ ap (stepped n s) st.made ∙ sym (replayed-snoc n (take k steps) s table) ∙ ap (λ (l : List Step). replayed n l table) (sym m.0),
         m.1 ∙ ap (λ (u : ℕ). with_hashes (read_from rule (edition_at log) log p).entries (drop u hashes)) z,
       )
-  next-step (update id ws ns el b) p used' h q =
+  next_step (update id ws ns el b) p used' h q =
       let e : Entry = update id ws ns el b in
       let z : used + 0 ≡ used = omega arith in
       let first : get_or (drop used hashes) 0 0 ≡ get_or hashes used 0 = get_or-drop used hashes 0 0 ∙ ap (λ (i : ℕ). get_or hashes i 0) z in
@@ -133,10 +133,10 @@ module _ (rule : AfterEnd) (n : ℕ) (log hashes table image : List ℕ) (at use
 
   run_on : (e : Entry) (p used' : ℕ) → next_by rule (edition_at log) log at ≡ next e p → used' ≡ used + one_update e → one_update e ≤ 1 → RunState rule n log hashes table (step_image rule n image (edition_at log) log at (get_or hashes used 0)) p used' (suc k)
   run_on e p used' h q one-most =
-      let i = entry-inside e p h in
-      let t = step-taken rule n image (edition_at log) log at (get_or hashes used 0) fits e p h i.0 in
+      let i = entry_inside e p h in
+      let t = step_taken rule n image (edition_at log) log at (get_or hashes used 0) fits e p h i.0 in
       let m = moves rule (edition_at log) log at e p h in
-      let s = next-step e p used' h q in
+      let s = next_step e p used' h q in
       record {
         made = sym t.1 ∙ s.0;
         left = s.1;
@@ -146,17 +146,17 @@ module _ (rule : AfterEnd) (n : ℕ) (log hashes table image : List ℕ) (at use
       }
 
   -- at the end nothing is left
-  ended-left : next_by rule (edition_at log) log at ≡ ended → (take k steps ≡ steps) × (take (suc k) steps ≡ take k steps) × (drop (suc k) steps ≡ [])
+  ended_left : next_by rule (edition_at log) log at ≡ ended → (take k steps ≡ steps) × (take (suc k) steps ≡ take k steps) × (drop (suc k) steps ≡ [])
   unfolding with_hashes
-  ended-left h = none_left k steps (st.left ∙ ap (λ (r : Reading). with_hashes r.entries (drop used hashes)) (read_end rule (edition_at log) log at h))
+  ended_left h = none_left k steps (st.left ∙ ap (λ (r : Reading). with_hashes r.entries (drop used hashes)) (read_end rule (edition_at log) log at h))
 
   -- the step answered that a clear was applied
-  pub after-clear : (p : ℕ) → given (cleared p) ≡ step_answer rule n image (edition_at log) log at → (at + 9 ≤ p) × (p ≤ length log) × RunState rule n log hashes table (step_image rule n image (edition_at log) log at (get_or hashes used 0)) p used (suc k)
-  after-clear p a = go (next_by rule (edition_at log) log at) refl
+  pub after_clear : (p : ℕ) → given (cleared p) ≡ step_answer rule n image (edition_at log) log at → (at + 9 ≤ p) × (p ≤ length log) × RunState rule n log hashes table (step_image rule n image (edition_at log) log at (get_or hashes used 0)) p used (suc k)
+  after_clear p a = go (next_by rule (edition_at log) log at) refl
     where
       go : (x : Next) → next_by rule (edition_at log) log at ≡ x → (at + 9 ≤ p) × (p ≤ length log) × RunState rule n log hashes table (step_image rule n image (edition_at log) log at (get_or hashes used 0)) p used (suc k)
       go (next (clear b) q) h =
-          let s = step-taken rule n image (edition_at log) log at (get_or hashes used 0) fits (clear b) q h (entry-inside (clear b) q h).0 in
+          let s = step_taken rule n image (edition_at log) log at (get_or hashes used 0) fits (clear b) q h (entry_inside (clear b) q h).0 in
           let z : given (cleared p) ≡ given (cleared q) = a ∙ sym s.0 in
           let e : p ≡ q = cc in
           let m = moves rule (edition_at log) log at (clear b) q h in (
@@ -165,7 +165,7 @@ module _ (rule : AfterEnd) (n : ℕ) (log hashes table image : List ℕ) (at use
             run_on (clear b) p used (h ∙ ap (next (clear b)) (sym e)) (omega arith) (omega arith),
           )
       go (next (update id ws ns el b) q) h =
-          let s = step-taken rule n image (edition_at log) log at (get_or hashes used 0) fits (update id ws ns el b) q h (entry-inside (update id ws ns el b) q h).0 in
+          let s = step_taken rule n image (edition_at log) log at (get_or hashes used 0) fits (update id ws ns el b) q h (entry_inside (update id ws ns el b) q h).0 in
           let z : given (cleared p) ≡ given (updated q) = a ∙ sym s.0 in
           let y : ◌≡◌ {A = ℕ} 0 1 = cc in absurd (omega arith)
       go ended h =
@@ -174,12 +174,12 @@ module _ (rule : AfterEnd) (n : ℕ) (log hashes table image : List ℕ) (at use
       go (stopped k) h = absurd (no_stop k h)
 
   -- the step answered that an update was applied
-  pub after-update : (p : ℕ) → given (updated p) ≡ step_answer rule n image (edition_at log) log at → (at + 9 ≤ p) × (p ≤ length log) × RunState rule n log hashes table (step_image rule n image (edition_at log) log at (get_or hashes used 0)) p (used + 1) (suc k)
-  after-update p a = go (next_by rule (edition_at log) log at) refl
+  pub after_update : (p : ℕ) → given (updated p) ≡ step_answer rule n image (edition_at log) log at → (at + 9 ≤ p) × (p ≤ length log) × RunState rule n log hashes table (step_image rule n image (edition_at log) log at (get_or hashes used 0)) p (used + 1) (suc k)
+  after_update p a = go (next_by rule (edition_at log) log at) refl
     where
       go : (x : Next) → next_by rule (edition_at log) log at ≡ x → (at + 9 ≤ p) × (p ≤ length log) × RunState rule n log hashes table (step_image rule n image (edition_at log) log at (get_or hashes used 0)) p (used + 1) (suc k)
       go (next (update id ws ns el b) q) h =
-          let s = step-taken rule n image (edition_at log) log at (get_or hashes used 0) fits (update id ws ns el b) q h (entry-inside (update id ws ns el b) q h).0 in
+          let s = step_taken rule n image (edition_at log) log at (get_or hashes used 0) fits (update id ws ns el b) q h (entry_inside (update id ws ns el b) q h).0 in
           let z : given (updated p) ≡ given (updated q) = a ∙ sym s.0 in
           let e : p ≡ q = cc in
           let m = moves rule (edition_at log) log at (update id ws ns el b) q h in (
@@ -188,7 +188,7 @@ module _ (rule : AfterEnd) (n : ℕ) (log hashes table image : List ℕ) (at use
             run_on (update id ws ns el b) p (used + 1) (h ∙ ap (next (update id ws ns el b)) (sym e)) refl (omega arith),
           )
       go (next (clear b) q) h =
-          let s = step-taken rule n image (edition_at log) log at (get_or hashes used 0) fits (clear b) q h (entry-inside (clear b) q h).0 in
+          let s = step_taken rule n image (edition_at log) log at (get_or hashes used 0) fits (clear b) q h (entry_inside (clear b) q h).0 in
           let z : given (updated p) ≡ given (cleared q) = a ∙ sym s.0 in
           let y : ◌≡◌ {A = ℕ} 0 1 = cc in absurd (omega arith)
       go ended h =
@@ -197,26 +197,26 @@ module _ (rule : AfterEnd) (n : ℕ) (log hashes table image : List ℕ) (at use
       go (stopped k) h = absurd (no_stop k h)
 
   -- the step applied no entry: it stands at the end, and all is applied
-  pub at-the-end : (r : Stepped) → stepped_said r ≡ step_answer rule n image (edition_at log) log at → OneOf (1 ∷ 2 ∷ 3 ∷ []) (tag_of SteppedT.the_type r) → OneOf (0 ∷ 2 ∷ 3 ∷ []) (tag_of SteppedT.the_type r)
+  pub at_the_end : (r : Stepped) → stepped_said r ≡ step_answer rule n image (edition_at log) log at → OneOf (1 ∷ 2 ∷ 3 ∷ []) (tag_of SteppedT.the_type r) → OneOf (0 ∷ 2 ∷ 3 ∷ []) (tag_of SteppedT.the_type r)
       → step_image rule n image (edition_at log) log at (get_or hashes used 0) ≡ replayed n (steps_of log hashes) table
-  at-the-end r a o q = go (next_by rule (edition_at log) log at) refl
+  at_the_end r a o q = go (next_by rule (edition_at log) log at) refl
     where
-      not-went : (e : Entry) (p : ℕ) (x : Stepped) → stepped_said x ≡ given (went_to e p) → OneOf (1 ∷ 2 ∷ 3 ∷ []) (tag_of SteppedT.the_type x) → OneOf (0 ∷ 2 ∷ 3 ∷ []) (tag_of SteppedT.the_type x) → ⊥
-      not-went (clear b) p (S.Cleared k) z u v = ⊎_elim (λ (y : 0 ≡ 1). omega arith) (⊎_elim (λ (y : 0 ≡ 2). omega arith) (λ (y : 0 ≡ 3). omega arith)) u
-      not-went (update id ws ns el b) p (S.Cleared k) z u v = let y : ◌≡◌ {A = ℕ} 0 1 = cc in omega arith
-      not-went (clear b) p (S.Updated k) z u v = let y : ◌≡◌ {A = ℕ} 0 1 = cc in omega arith
-      not-went (update id ws ns el b) p (S.Updated k) z u v = ⊎_elim (λ (y : 1 ≡ 0). omega arith) (⊎_elim (λ (y : 1 ≡ 2). omega arith) (λ (y : 1 ≡ 3). omega arith)) v
-      not-went (clear b) p S.End z u v = let y : ◌≡◌ {A = ℕ} 0 1 = cc in omega arith
-      not-went (update id ws ns el b) p S.End z u v = let y : ◌≡◌ {A = ℕ} 0 1 = cc in omega arith
-      not-went (clear b) p (S.Refused k) z u v = let y : ◌≡◌ {A = ℕ} 0 1 = cc in omega arith
-      not-went (update id ws ns el b) p (S.Refused k) z u v = let y : ◌≡◌ {A = ℕ} 0 1 = cc in omega arith
+      not_went : (e : Entry) (p : ℕ) (x : Stepped) → stepped_said x ≡ given (went_to e p) → OneOf (1 ∷ 2 ∷ 3 ∷ []) (tag_of SteppedT.the_type x) → OneOf (0 ∷ 2 ∷ 3 ∷ []) (tag_of SteppedT.the_type x) → ⊥
+      not_went (clear b) p (S.Cleared k) z u v = ⊎_elim (λ (y : 0 ≡ 1). omega arith) (⊎_elim (λ (y : 0 ≡ 2). omega arith) (λ (y : 0 ≡ 3). omega arith)) u
+      not_went (update id ws ns el b) p (S.Cleared k) z u v = let y : ◌≡◌ {A = ℕ} 0 1 = cc in omega arith
+      not_went (clear b) p (S.Updated k) z u v = let y : ◌≡◌ {A = ℕ} 0 1 = cc in omega arith
+      not_went (update id ws ns el b) p (S.Updated k) z u v = ⊎_elim (λ (y : 1 ≡ 0). omega arith) (⊎_elim (λ (y : 1 ≡ 2). omega arith) (λ (y : 1 ≡ 3). omega arith)) v
+      not_went (clear b) p S.End z u v = let y : ◌≡◌ {A = ℕ} 0 1 = cc in omega arith
+      not_went (update id ws ns el b) p S.End z u v = let y : ◌≡◌ {A = ℕ} 0 1 = cc in omega arith
+      not_went (clear b) p (S.Refused k) z u v = let y : ◌≡◌ {A = ℕ} 0 1 = cc in omega arith
+      not_went (update id ws ns el b) p (S.Refused k) z u v = let y : ◌≡◌ {A = ℕ} 0 1 = cc in omega arith
 
       go : (x : Next) → next_by rule (edition_at log) log at ≡ x → step_image rule n image (edition_at log) log at (get_or hashes used 0) ≡ replayed n (steps_of log hashes) table
       go (next e p) h =
-          let s = step-taken rule n image (edition_at log) log at (get_or hashes used 0) fits e p h (entry-inside e p h).0 in
-          absurd (not-went e p r (a ∙ sym s.0) o q)
+          let s = step_taken rule n image (edition_at log) log at (get_or hashes used 0) fits e p h (entry_inside e p h).0 in
+          absurd (not_went e p r (a ∙ sym s.0) o q)
       go ended h =
-          image-by rule n image (edition_at log) log at (get_or hashes used 0) fits ended h ∙ st.made ∙ ap (λ (l : List Step). replayed n l table) (ended-left h).0
+          image_by_lem rule n image (edition_at log) log at (get_or hashes used 0) fits ended h ∙ st.made ∙ ap (λ (l : List Step). replayed n l table) (ended_left h).0
       go (stopped k) h = absurd (no_stop k h)
 
   -- one call more, whatever it answers; it is not refused
@@ -235,18 +235,18 @@ module _ (rule : AfterEnd) (n : ℕ) (log hashes table image : List ℕ) (at use
 
       go : (x : Next) → next_by rule (edition_at log) log at ≡ x → Stands (called rule n log hashes here)
       go (next (clear b) p) h =
-          subst (λ (a : Answer Went). Stands (moved_by a (step_image rule n image (edition_at log) log at hash) here)) (step-taken rule n image (edition_at log) log at hash fits (clear b) p h (entry-inside (clear b) p h).0).0
+          subst (λ (a : Answer Went). Stands (moved_by a (step_image rule n image (edition_at log) log at hash) here)) (step_taken rule n image (edition_at log) log at hash fits (clear b) p h (entry_inside (clear b) p h).0).0
           (run_on (clear b) p used h (omega arith) (omega arith))
       go (next (update id ws ns el b) p) h =
           let e : Entry = update id ws ns el b in
-          subst (λ (a : Answer Went). Stands (moved_by a (step_image rule n image (edition_at log) log at hash) here)) (step-taken rule n image (edition_at log) log at hash fits e p h (entry-inside e p h).0).0
+          subst (λ (a : Answer Went). Stands (moved_by a (step_image rule n image (edition_at log) log at hash) here)) (step_taken rule n image (edition_at log) log at hash fits e p h (entry_inside e p h).0).0
           (run_on e p (used + 1) h refl (omega arith))
       go ended h =
-          let left = ended-left h in
+          let left = ended_left h in
           let r = read_end rule (edition_at log) log at h in
           subst (λ (a : Answer Went). Stands (moved_by a (step_image rule n image (edition_at log) log at hash) here)) (sym (by_next_lem rule n image (edition_at log) log at hash fits ended h))
           (record {
-            made = image-by rule n image (edition_at log) log at hash fits ended h ∙ st.made ∙ ap (λ (l : List Step). replayed n l table) (sym left.1);
+            made = image_by_lem rule n image (edition_at log) log at hash fits ended h ∙ st.made ∙ ap (λ (l : List Step). replayed n l table) (sym left.1);
             left = left.2 ∙ sym (ap (λ (x : Reading). with_hashes x.entries (drop used hashes)) r);
             inside = st.inside;
             whole = st.whole;
@@ -254,10 +254,10 @@ module _ (rule : AfterEnd) (n : ℕ) (log hashes table image : List ℕ) (at use
           })
       go (stopped q) h = absurd (no_stop q h)
 
-  pub call-accepted : accepted (step_answer rule n image (edition_at log) log at) ≡ true
-  call-accepted = go (next_by rule (edition_at log) log at) refl
+  pub call_accepted : accepted (step_answer rule n image (edition_at log) log at) ≡ true
+  call_accepted = go (next_by rule (edition_at log) log at) refl
     where
       go : (x : Next) → next_by rule (edition_at log) log at ≡ x → accepted (step_answer rule n image (edition_at log) log at) ≡ true
-      go (next e p) h = ap accepted (sym (step-taken rule n image (edition_at log) log at (get_or hashes used 0) fits e p h (entry-inside e p h).0).0)
+      go (next e p) h = ap accepted (sym (step_taken rule n image (edition_at log) log at (get_or hashes used 0) fits e p h (entry_inside e p h).0).0)
       go ended h = ap accepted (by_next_lem rule n image (edition_at log) log at (get_or hashes used 0) fits ended h)
       go (stopped q) h = absurd (no_stop q h)

@@ -16,12 +16,12 @@ use Rattle.wal.specs.declared.AfterEnd.{AfterEnd}
 use Rattle.wal.specs.declared.Edition.{Edition}
 use Rattle.wal.specs.declared.Edition.TheVariants.{Two}
 use Rattle.wal.specs.declared.Start.{Start}
-use Rattle.wal.proofs.RoundTrip.{edition-told, start-told, seed-told}
+use Rattle.wal.proofs.RoundTrip.{edition_told, start_told, seed_told}
 use Rattle.wal_read.proofs.NextLaws.{start_long}
 use Rattle.recover.specs.declared.Expected.{Expected}
 use Rattle.recover.specs.Replay.{store_in, of_store, replay_answer, replay_image}
 use Rattle.recover.proofs.Acceptance.{refusal_leaves}
-use Rattle.recover.proofs.Replays.{other-store, replay-started}
+use Rattle.recover.proofs.Replays.{other_store, replay_started}
 
 -- a log of edition two with a start whose seed is another: 26, and the image stays, whatever the log holds after its start, whatever sync number is
 -- expected and whatever hashes are lent
@@ -34,17 +34,17 @@ module _ (rule : AfterEnd) (n : ℕ) (image log : List ℕ) (want : Expected) (h
       go true e = absurd (differs (same_equal (seed_of log) want.seed e))
       go false e = e
 
-  answer-26 : replay_answer rule n image log want hashes ≡ refused 26
-  answer-26 =
-      sym (other-store rule n log s want (length hashes) not_ours
-      ∙ replay-started rule n (length image) log want (length hashes) fits (λ z. omega (arith, start_long (edition_at log) log s start)) (given s) start)
+  answer_26 : replay_answer rule n image log want hashes ≡ refused 26
+  answer_26 =
+      sym (other_store rule n log s want (length hashes) not_ours
+      ∙ replay_started rule n (length image) log want (length hashes) fits (λ z. omega (arith, start_long (edition_at log) log s start)) (given s) start)
 
-  pub other-store-refused : (replay_answer rule n image log want hashes ≡ refused 26) × (replay_image rule n image log want hashes ≡ image)
-  other-store-refused = (answer-26, refusal_leaves rule n image log want hashes 26 answer-26)
+  pub other_store_refused : (replay_answer rule n image log want hashes ≡ refused 26) × (replay_image rule n image log want hashes ≡ image)
+  other_store_refused = (answer_26, refusal_leaves rule n image log want hashes 26 answer_26)
 
 -- the same from the bytes: a start of edition two, and any bytes after it that fill the pages
 pub rehearsal_refused : (rule : AfterEnd) (n : ℕ) (image : List ℕ) (start : Start) (rest : List ℕ) (want : Expected) (hashes : List ℕ) → image_fits n (length image) ≡ true → WideStart start → start.edition ≡ Two
     → length (start_record start ++ rest) % 4096 ≡ 0 → (start.seed ≡ want.seed → ⊥)
     → (replay_answer rule n image (start_record start ++ rest) want hashes ≡ refused 26) × (replay_image rule n image (start_record start ++ rest) want hashes ≡ image)
 rehearsal_refused rule n image start rest want hashes fits wide two pages differs =
-    other-store-refused rule n image (start_record start ++ rest) want hashes fits (edition-told start rest ∙ two) start.sync (start-told start rest wide pages) (λ e. differs (sym (seed-told start rest wide two) ∙ e))
+    other_store_refused rule n image (start_record start ++ rest) want hashes fits (edition_told start rest ∙ two) start.sync (start_told start rest wide pages) (λ e. differs (sym (seed_told start rest wide two) ∙ e))

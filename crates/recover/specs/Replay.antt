@@ -137,7 +137,7 @@ recovered_said (R.Refused r) = refused (number_of r)
 
 -- "accepted under its own sync number", and for edition two "with equal seeds as a premise": what replay expects of the log of a start
 pub record Own (start : Start) (want : Expected) : Type 0 where
-  pub same-sync : want.sync ≡ start.sync
+  pub same_sync : want.sync ≡ start.sync
   pub same_store : start.edition ≡ Two → want.seed ≡ start.seed
 
 -- demand 3: "an image that differs from that table only in places the log names"
@@ -163,5 +163,5 @@ pub record Mix (a b image : List ℕ) : Type 0 where
 -- the images that stops can leave: the table; what any number of applied entries make of such an image; any mix of two
 pub data Stopped (n : ℕ) (ss : List Step) (table : List ℕ) : List ℕ → Type 0 where
   untouched : Stopped n ss table table
-  part-applied : (image : List ℕ) (k : ℕ) → Stopped n ss table image → Stopped n ss table (replayed n (take k ss) image)
+  part_applied : (image : List ℕ) (k : ℕ) → Stopped n ss table image → Stopped n ss table (replayed n (take k ss) image)
   mixed : (a b image : List ℕ) → Stopped n ss table a → Stopped n ss table b → Mix a b image → Stopped n ss table image

@@ -12,7 +12,7 @@ use lib.Dec.{eqb}
 use lib.ListN.{length, get_or, set, replicate, length-replicate}
 use borrow.Author.Tests.{eq-eqb, ne_eqb}
 use Rattle.answers.specs.Answers.{Answer, given, refused}
-use Rattle.answers.proofs.Laws.{given-one}
+use Rattle.answers.proofs.Laws.{given_one}
 use Rattle.blocks.specs.Blocks.{put}
 use Rattle.blocks.proofs.Laws.{block-length}
 use Rattle.ht_file.specs.Places.{tags_length, image_length, image_fits, page_start, tags_of}
@@ -23,8 +23,8 @@ use Rattle.probe.proofs.Visits.{visit_below}
 use Rattle.probe.proofs.Promises.{AllocatedAt, allocated_bucket}
 use Rattle.probe.specs.declared.Limit.{Limit}
 use Rattle.rehash.specs.Growth.{page_at, stored, zeroed, grown_to}
-use Rattle.rehash.proofs.Moves.{allocation-is, grown-none, grown-next, grown-stop}
-use Rattle.rehash.proofs.Stores.{full_not_free, free_not_full, tag_of, store_long, store-tag, store-tag-other, store-page, store-page-other, store-count, zero_at, zero_page, none_full}
+use Rattle.rehash.proofs.Moves.{allocation_is, grown_none, grown_next, grown_stop}
+use Rattle.rehash.proofs.Stores.{full_not_free, free_not_full, tag_of, store_long, store_tag, store_tag_other, store_page, store_page_other, store_count, zero_at, zero_page, none_full}
 
 -- the page of old bucket b, with the hash h, stands in bucket c of a new image, and no visit of h before it is empty
 pub record Moved (old : List ℕ) (old_n new_n : ℕ) (img : List ℕ) (h b c : ℕ) : Type 0 where
@@ -33,8 +33,8 @@ pub record Moved (old : List ℕ) (old_n new_n : ℕ) (img : List ℕ) (h b c : 
   pub page : page_at img new_n c ≡ page_at old old_n b
   pub at : ℕ
   pub within : at < 2 * new_n
-  pub on-path : c ≡ visit new_n h at
-  pub none-empty : (j : ℕ) → j < at → get_or img (visit new_n h j) 0 ≡ 0x00 → ⊥
+  pub on_path : c ≡ visit new_n h at
+  pub none_empty : (j : ℕ) → j < at → get_or img (visit new_n h j) 0 ≡ 0x00 → ⊥
 
 -- bucket c of a new image is as the zeroed image has it
 abbrev pub Untouched : ℕ → List ℕ → ℕ → Type 0
@@ -101,14 +101,14 @@ module _ (limit : Limit) (old : List ℕ) (old_n new_n : ℕ) (hashes : List ℕ
       abbrev next : List ℕ
       next = put (set img c (full_tag (get_or hashes k 0))) (page_start new_n c) (page_at old old_n k)
 
-      image-fits : image_fits new_n (length img) ≡ true
-      image-fits = ap (image_fits new_n) w.long ∙ fits
+      image_fits_lem : image_fits new_n (length img) ≡ true
+      image_fits_lem = ap (image_fits new_n) w.long ∙ fits
 
       size : length (page_at old old_n k) ≡ 4096
       size = block-length 4096 old (page_start old_n k)
 
       step : (v : ℕ) × AllocatedAt limit (tags_of new_n img) new_n (get_or hashes k 0) c v
-      step = allocated_bucket limit (tags_of new_n img) new_n (get_or hashes k 0) c (allocation-is new_n img image-fits limit (get_or hashes k 0) ∙ gave)
+      step = allocated_bucket limit (tags_of new_n img) new_n (get_or hashes k 0) c (allocation_is new_n img image_fits_lem limit (get_or hashes k 0) ∙ gave)
 
       at : AllocatedAt limit (tags_of new_n img) new_n (get_or hashes k 0) c step.0
       at = step.1
@@ -120,8 +120,8 @@ module _ (limit : Limit) (old : List ℕ) (old_n new_n : ℕ) (hashes : List ℕ
       was_free = ap is_free (sym (tag_of new_n img c inside)) ∙ at.was_free
 
       -- no earlier page stands there
-      new-place : (b : ℕ) → b < k → is_full (get_or old b 0) ≡ true → w.place b ≡ c → ⊥
-      new-place b l f q =
+      new_place : (b : ℕ) → b < k → is_full (get_or old b 0) ≡ true → w.place b ≡ c → ⊥
+      new_place b l f q =
           true≢false (sym was_free ∙ ap (λ (i : ℕ). is_free (get_or img i 0)) (sym q) ∙ ap is_free (w.moved b l f).tag ∙ full_not_free (get_or hashes b 0))
 
       -- what was not empty is not
@@ -129,35 +129,35 @@ module _ (limit : Limit) (old : List ℕ) (old_n new_n : ℕ) (hashes : List ℕ
       stays i l f z = go (ℕ_discrete i c)
         where
           go : Dec (i ≡ c) → ⊥
-          go (yes q) = full_tag_not_empty h (sym (store-tag new_n img w.long c h inside page size) ∙ ap (λ (j : ℕ). get_or next j 0) (sym q) ∙ z)
-          go (no q) = f (sym (store-tag-other new_n img w.long c h inside page size i (omega arith) q) ∙ z)
+          go (yes q) = full_tag_not_empty h (sym (store_tag new_n img w.long c h inside page size) ∙ ap (λ (j : ℕ). get_or next j 0) (sym q) ∙ z)
+          go (no q) = f (sym (store_tag_other new_n img w.long c h inside page size i (omega arith) q) ∙ z)
 
       moved_before : (b d : ℕ) → (d ≡ c → ⊥) → Moved old old_n new_n img (get_or hashes b 0) b d → Moved old old_n new_n next (get_or hashes b 0) b d
       moved_before b d f m =
           record {
             below = m.below;
-            tag = store-tag-other new_n img w.long c h inside page size d (omega (arith, m.below)) f ∙ m.tag;
-            page = store-page-other new_n img w.long c h inside page size d f ∙ m.page;
+            tag = store_tag_other new_n img w.long c h inside page size d (omega (arith, m.below)) f ∙ m.tag;
+            page = store_page_other new_n img w.long c h inside page size d f ∙ m.page;
             at = m.at;
             within = m.within;
-            on-path = m.on-path;
-            none-empty = λ j l. stays (visit new_n (get_or hashes b 0) j) (visit_below new_n (get_or hashes b 0) j (omega arith)) (m.none-empty j l);
+            on_path = m.on_path;
+            none_empty = λ j l. stays (visit new_n (get_or hashes b 0) j) (visit_below new_n (get_or hashes b 0) j (omega arith)) (m.none_empty j l);
           }
 
-      moved-now : Moved old old_n new_n next (get_or hashes k 0) k c
-      moved-now =
+      moved_now : Moved old old_n new_n next (get_or hashes k 0) k c
+      moved_now =
           record {
             below = inside;
-            tag = store-tag new_n img w.long c h inside page size;
-            page = store-page new_n img w.long c h inside page size;
+            tag = store_tag new_n img w.long c h inside page size;
+            page = store_page new_n img w.long c h inside page size;
             at = step.0;
             within = at.within;
-            on-path = at.on-path;
-            none-empty = λ j l. stays (visit new_n h j) (visit_below new_n h j (omega arith)) (λ z. not-empty j l z);
+            on_path = at.on_path;
+            none_empty = λ j l. stays (visit new_n h j) (visit_below new_n h j (omega arith)) (λ z. not_empty j l z);
           }
         where
-          not-empty : (j : ℕ) → j < step.0 → get_or img (visit new_n h j) 0 ≡ 0x00 → ⊥
-          not-empty j l z =
+          not_empty : (j : ℕ) → j < step.0 → get_or img (visit new_n h j) 0 ≡ 0x00 → ⊥
+          not_empty j l z =
               let v = visit new_n h j in
               let t : get_or (tags_of new_n img) v 0 ≡ 0x00 = tag_of new_n img v (visit_below new_n h j (omega arith)) ∙ z in
               true≢false (sym (ap is_free t) ∙ at.none_before j l)
@@ -165,68 +165,68 @@ module _ (limit : Limit) (old : List ℕ) (old_n new_n : ℕ) (hashes : List ℕ
       where_to : ℕ → ℕ
       where_to b = cond (eqb b k) c (w.place b)
 
-      to-now : (b : ℕ) → b ≡ k → where_to b ≡ c
+      to_now : (b : ℕ) → b ≡ k → where_to b ≡ c
       unfolding where_to
-      to-now b q = ap (λ (t : Bool). cond t c (w.place b)) (eq-eqb b k q)
+      to_now b q = ap (λ (t : Bool). cond t c (w.place b)) (eq-eqb b k q)
 
-      to-before : (b : ℕ) → (b ≡ k → ⊥) → where_to b ≡ w.place b
+      to_before : (b : ℕ) → (b ≡ k → ⊥) → where_to b ≡ w.place b
       unfolding where_to
-      to-before b q = ap (λ (t : Bool). cond t c (w.place b)) (ne_eqb b k q)
+      to_before b q = ap (λ (t : Bool). cond t c (w.place b)) (ne_eqb b k q)
 
-      carried-full : Carried old old_n new_n hashes (k + 1) next
-      carried-full =
+      carried_full : Carried old old_n new_n hashes (k + 1) next
+      carried_full =
           record {
             long = store_long new_n img w.long c h inside page size ∙ w.long;
             place = where_to;
             moved = λ b l f. moves b l f (ℕ_discrete b k);
             apart = λ b d l m f g q. differ b d l m f g q (ℕ_discrete b k) (ℕ_discrete d k);
             others = λ d l. rest d l (ℕ_discrete d c);
-            padding = λ i l m. store-tag-other new_n img w.long c h inside page size i m (λ q. absurd (omega (arith, inside))) ∙ w.padding i l m;
+            padding = λ i l m. store_tag_other new_n img w.long c h inside page size i m (λ q. absurd (omega (arith, inside))) ∙ w.padding i l m;
             as_many =
-                store-count new_n img w.long c h inside page size (free_not_full (get_or img c 0) was_free) ∙ ap (λ (m : ℕ). m + 1) w.as_many
+                store_count new_n img w.long c h inside page size (free_not_full (get_or img c 0) was_free) ∙ ap (λ (m : ℕ). m + 1) w.as_many
                 ∙ sym (count-suc full old k ∙ ap (λ (t : Bool). count_of full old k + one t) e);
           }
         where
           moves : (b : ℕ) → b < k + 1 → is_full (get_or old b 0) ≡ true → Dec (b ≡ k) → Moved old old_n new_n next (get_or hashes b 0) b (where_to b)
           moves b l f (yes q) =
-              subst (λ (d : ℕ). Moved old old_n new_n next (get_or hashes b 0) b d) (sym (to-now b q)) (subst (λ (i : ℕ). Moved old old_n new_n next (get_or hashes i 0) i c) (sym q) moved-now)
+              subst (λ (d : ℕ). Moved old old_n new_n next (get_or hashes b 0) b d) (sym (to_now b q)) (subst (λ (i : ℕ). Moved old old_n new_n next (get_or hashes i 0) i c) (sym q) moved_now)
           moves b l f (no q) =
-              subst (λ (d : ℕ). Moved old old_n new_n next (get_or hashes b 0) b d) (sym (to-before b q))
-              (moved_before b (w.place b) (new-place b (omega arith) f) (w.moved b (omega arith) f))
+              subst (λ (d : ℕ). Moved old old_n new_n next (get_or hashes b 0) b d) (sym (to_before b q))
+              (moved_before b (w.place b) (new_place b (omega arith) f) (w.moved b (omega arith) f))
 
           differ : (b d : ℕ) → b < k + 1 → d < k + 1 → is_full (get_or old b 0) ≡ true → is_full (get_or old d 0) ≡ true → where_to b ≡ where_to d → Dec (b ≡ k) → Dec (d ≡ k) → b ≡ d
           differ b d l m f g q (yes x) (yes y) = x ∙ sym y
-          differ b d l m f g q (yes x) (no y) = absurd (new-place d (omega arith) g (sym (to-before d y) ∙ sym q ∙ to-now b x))
-          differ b d l m f g q (no x) (yes y) = absurd (new-place b (omega arith) f (sym (to-before b x) ∙ q ∙ to-now d y))
-          differ b d l m f g q (no x) (no y) = w.apart b d (omega arith) (omega arith) f g (sym (to-before b x) ∙ q ∙ to-before d y)
+          differ b d l m f g q (yes x) (no y) = absurd (new_place d (omega arith) g (sym (to_before d y) ∙ sym q ∙ to_now b x))
+          differ b d l m f g q (no x) (yes y) = absurd (new_place b (omega arith) f (sym (to_before b x) ∙ q ∙ to_now d y))
+          differ b d l m f g q (no x) (no y) = w.apart b d (omega arith) (omega arith) f g (sym (to_before b x) ∙ q ∙ to_before d y)
 
           rest : (d : ℕ) → d < new_n → Dec (d ≡ c) → Untouched new_n next d ⊎ ((b : ℕ) × (b < k + 1) × (is_full (get_or old b 0) ≡ true) × (where_to b ≡ d))
-          rest d l (yes q) = inr (k, omega arith, e, to-now k refl ∙ sym q)
+          rest d l (yes q) = inr (k, omega arith, e, to_now k refl ∙ sym q)
           rest d l (no q) = go (w.others d l)
             where
               go : Untouched new_n img d ⊎ ((b : ℕ) × (b < k) × (is_full (get_or old b 0) ≡ true) × (w.place b ≡ d)) → Untouched new_n next d ⊎ ((b : ℕ) × (b < k + 1) × (is_full (get_or old b 0) ≡ true) × (where_to b ≡ d))
               go (inl u) =
-                  inl (store-tag-other new_n img w.long c h inside page size d (omega arith) q ∙ u.0, store-page-other new_n img w.long c h inside page size d q ∙ u.1)
-              go (inr s) = inr (s.0, omega (arith, s.1), s.2, to-before s.0 (λ x. absurd (omega (arith, s.1, x))) ∙ s.3)
+                  inl (store_tag_other new_n img w.long c h inside page size d (omega arith) q ∙ u.0, store_page_other new_n img w.long c h inside page size d q ∙ u.1)
+              go (inr s) = inr (s.0, omega (arith, s.1), s.2, to_before s.0 (λ x. absurd (omega (arith, s.1, x))) ∙ s.3)
 
   -- so it is after each of them
   pub carried : (k : ℕ) (img : List ℕ) → grown_to limit old old_n new_n hashes k ≡ given img → Carried old old_n new_n hashes k img
   carried zero img g =
-      let z : zeroed new_n ≡ img = given-one (zeroed new_n) img (sym (grown-none limit old old_n new_n hashes) ∙ g) in
+      let z : zeroed new_n ≡ img = given_one (zeroed new_n) img (sym (grown_none limit old old_n new_n hashes) ∙ g) in
       subst (Carried old old_n new_n hashes 0) z carried_none
   carried (suc k) img g = go (grown_to limit old old_n new_n hashes k) refl (carried k)
     where
-      step-on : (was : List ℕ) → Carried old old_n new_n hashes k was → (t : Bool) → is_full (get_or old k 0) ≡ t → (a : Answer ℕ) → allocating limit (tags_of new_n was) new_n (get_or hashes k 0) ≡ a
+      step_on : (was : List ℕ) → Carried old old_n new_n hashes k was → (t : Bool) → is_full (get_or old k 0) ≡ t → (a : Answer ℕ) → allocating limit (tags_of new_n was) new_n (get_or hashes k 0) ≡ a
           → cond t (stored was new_n (get_or hashes k 0) (page_at old old_n k) a) (given was) ≡ given img → Carried old old_n new_n hashes (k + 1) img
-      step-on was w true e (given c) a q = subst (Carried old old_n new_n hashes (k + 1)) (given-one _ img q) (carried-full k was w e c a)
-      step-on was w true e (refused m) a q = let z : ◌≡◌ {A = ℕ} 0 1 = cc in absurd (omega arith)
-      step-on was w false e a p q = subst (Carried old old_n new_n hashes (k + 1)) (given-one was img q) (carried_other k was w e)
+      step_on was w true e (given c) a q = subst (Carried old old_n new_n hashes (k + 1)) (given_one _ img q) (carried_full k was w e c a)
+      step_on was w true e (refused m) a q = let z : ◌≡◌ {A = ℕ} 0 1 = cc in absurd (omega arith)
+      step_on was w false e a p q = subst (Carried old old_n new_n hashes (k + 1)) (given_one was img q) (carried_other k was w e)
 
       go : (x : Answer (List ℕ)) → grown_to limit old old_n new_n hashes k ≡ x → ((i : List ℕ) → grown_to limit old old_n new_n hashes k ≡ given i → Carried old old_n new_n hashes k i) → Carried old old_n new_n hashes (suc k) img
       go (given was) p rec =
           subst (λ (i : ℕ). Carried old old_n new_n hashes i img) (add-one k)
-          (step-on was (rec was p) (is_full (get_or old k 0)) refl (allocating limit (tags_of new_n was) new_n (get_or hashes k 0)) refl
-          (sym (grown-next limit old old_n new_n hashes k was p) ∙ ap (grown_to limit old old_n new_n hashes) (add-one k) ∙ g))
+          (step_on was (rec was p) (is_full (get_or old k 0)) refl (allocating limit (tags_of new_n was) new_n (get_or hashes k 0)) refl
+          (sym (grown_next limit old old_n new_n hashes k was p) ∙ ap (grown_to limit old old_n new_n hashes) (add-one k) ∙ g))
       go (refused m) p rec =
-          let q : refused m ≡ given img = sym (grown-stop limit old old_n new_n hashes k m 1 p) ∙ ap (grown_to limit old old_n new_n hashes) (add-one k) ∙ g in
+          let q : refused m ≡ given img = sym (grown_stop limit old old_n new_n hashes k m 1 p) ∙ ap (grown_to limit old old_n new_n hashes) (add-one k) ∙ g in
           let z : ◌≡◌ {A = ℕ} 0 1 = cc in absurd (omega arith)

@@ -18,17 +18,17 @@ abbrev pub magic_number : ℕ
 magic_number = 0x00314852544D4F4E
 
 module _ (bs : List ℕ) (long : length bs ≡ 16) where
-  first-eight : take 8 bs ≡ block 8 bs 0
-  first-eight = sym (block_at 8 bs 0 (omega arith))
+  first_eight : take 8 bs ≡ block 8 bs 0
+  first_eight = sym (block_at 8 bs 0 (omega arith))
 
-  pub magic-is : AllBytes bs → le (block 8 bs 0) ≡ magic_number → same_bytes (take 8 bs) magic ≡ true
-  magic-is b e = equal_same (take 8 bs) magic (first-eight ∙ sym (bytes_of-block 8 bs 0 b) ∙ ap (bytes_of 8) e)
+  pub magic_is : AllBytes bs → le (block 8 bs 0) ≡ magic_number → same_bytes (take 8 bs) magic ≡ true
+  magic_is b e = equal_same (take 8 bs) magic (first_eight ∙ sym (bytes_of-block 8 bs 0 b) ∙ ap (bytes_of 8) e)
 
-  pub magic-not : (le (block 8 bs 0) ≡ magic_number → ⊥) → same_bytes (take 8 bs) magic ≡ false
-  magic-not f = go (same_bytes (take 8 bs) magic) refl
+  pub magic_not : (le (block 8 bs 0) ≡ magic_number → ⊥) → same_bytes (take 8 bs) magic ≡ false
+  magic_not f = go (same_bytes (take 8 bs) magic) refl
     where
       go : (t : Bool) → same_bytes (take 8 bs) magic ≡ t → t ≡ false
-      go true e = absurd (f (ap le (sym first-eight ∙ same_equal (take 8 bs) magic e)))
+      go true e = absurd (f (ap le (sym first_eight ∙ same_equal (take 8 bs) magic e)))
       go false e = refl
 
 -- the answer, test by test
@@ -37,13 +37,13 @@ unfolding read_answer
 read_short bs f = rw (ne_eqb (length bs) 16 f)
 
 module _ (bs : List ℕ) (long : length bs ≡ 16) where
-  pub read-other : same_bytes (take 8 bs) magic ≡ false → read_answer bs ≡ refused 16
+  pub read_other : same_bytes (take 8 bs) magic ≡ false → read_answer bs ≡ refused 16
   unfolding read_answer
-  read-other e = rw (eq-eqb (length bs) 16 long, e)
+  read_other e = rw (eq-eqb (length bs) 16 long, e)
 
-  pub read-counts : same_bytes (take 8 bs) magic ≡ true → read_answer bs ≡ counts_of (le (block 4 bs 8)) (le (block 4 bs 12))
+  pub read_counts : same_bytes (take 8 bs) magic ≡ true → read_answer bs ≡ counts_of (le (block 4 bs 8)) (le (block 4 bs 12))
   unfolding read_answer
-  read-counts e = rw (eq-eqb (length bs) 16 long, e)
+  read_counts e = rw (eq-eqb (length bs) 16 long, e)
 
 -- what is written is read again
 pub marker_read_again : (old new : ℕ) → old < new → new < 2 ^ 32 → read_answer (written_marker old new) ≡ given (record { old = old; new = new })

@@ -16,36 +16,36 @@ use Rattle.ht_file.specs.Places.{count_allowed, tags_length, image_length, tags_
 use Rattle.ht_file.proofs.Laws.{both_hold, image_fits_facts}
 use Rattle.meta_map.specs.Tags.{full_tag, is_full}
 use Rattle.probe.specs.Path.{allocating, allocate_answer}
-use Rattle.probe.proofs.Allocating.{answer-below}
+use Rattle.probe.proofs.Allocating.{answer_below}
 use Rattle.probe.specs.declared.Limit.{Limit}
 use Rattle.rehash.specs.Growth.{page_at, stored, zeroed, bucket_moved, grown_to, copied, done, lengths_fit, end_of, growth_answer, image_or, growth_image}
 
 module _ (n : ℕ) (img : List ℕ) (fits : image_fits n (length img) ≡ true) where
-  pub tags-long : length (tags_of n img) ≡ tags_length n
-  tags-long = let f = image_fits_facts n (length img) fits in length-take-le (tags_length n) img (omega (arith, f.2))
+  pub tags_long : length (tags_of n img) ≡ tags_length n
+  tags_long = let f = image_fits_facts n (length img) fits in length-take-le (tags_length n) img (omega (arith, f.2))
 
   -- the tag pages of an image that fits fit
-  pub tags-fit : tags_fit n (length (tags_of n img)) ≡ true
-  tags-fit = ap₂ ◌&&◌ (both_hold (count_allowed n) (eqb (length img) (image_length n)) fits).0 (eq-eqb (length (tags_of n img)) (tags_length n) tags-long)
+  pub tags_fit_lem : tags_fit n (length (tags_of n img)) ≡ true
+  tags_fit_lem = ap₂ ◌&&◌ (both_hold (count_allowed n) (eqb (length img) (image_length n)) fits).0 (eq-eqb (length (tags_of n img)) (tags_length n) tags_long)
 
   -- so allocation there is not refused for the table
-  pub allocation-is : (limit : Limit) (h : ℕ) → allocate_answer limit (tags_of n img) n h ≡ allocating limit (tags_of n img) n h
-  allocation-is limit h = rw tags-fit
+  pub allocation_is : (limit : Limit) (h : ℕ) → allocate_answer limit (tags_of n img) n h ≡ allocating limit (tags_of n img) n h
+  allocation_is limit h = rw tags_fit_lem
 
   pub given_below : (limit : Limit) (h b : ℕ) → allocating limit (tags_of n img) n h ≡ given b → b < n
-  given_below limit h b e = (answer-below limit (tags_of n img) n h b (allocation-is limit h ∙ e)).0
+  given_below limit h b e = (answer_below limit (tags_of n img) n h b (allocation_is limit h ∙ e)).0
 
   -- a tag written in the tag pages, said of the image
-  pub tag-set : (b t : ℕ) → b < n → set (tags_of n img) b t ++ drop (tags_length n) img ≡ set img b t
-  tag-set b t l =
-      sym (set-append_left (tags_of n img) (drop (tags_length n) img) b t (omega (arith, tags-long))) ∙ ap (λ (s : List ℕ). set s b t) (take-append-drop (tags_length n) img)
+  pub tag_set : (b t : ℕ) → b < n → set (tags_of n img) b t ++ drop (tags_length n) img ≡ set img b t
+  tag_set b t l =
+      sym (set-append_left (tags_of n img) (drop (tags_length n) img) b t (omega (arith, tags_long))) ∙ ap (λ (s : List ℕ). set s b t) (take-append-drop (tags_length n) img)
 
 module _ (limit : Limit) (old : List ℕ) (old_n new_n h b : ℕ) (img : List ℕ) where
   pub moved_other : is_full (get_or old b 0) ≡ false → bucket_moved limit old old_n new_n h b img ≡ given img
   moved_other e = rw e
 
-  pub moved-full : is_full (get_or old b 0) ≡ true → (a : Answer ℕ) → allocating limit (tags_of new_n img) new_n h ≡ a → bucket_moved limit old old_n new_n h b img ≡ stored img new_n h (page_at old old_n b) a
-  moved-full e a q = rw (e, q)
+  pub moved_full : is_full (get_or old b 0) ≡ true → (a : Answer ℕ) → allocating limit (tags_of new_n img) new_n h ≡ a → bucket_moved limit old old_n new_n h b img ≡ stored img new_n h (page_at old old_n b) a
+  moved_full e a q = rw (e, q)
 
   pub moved_length : (img' : List ℕ) → bucket_moved limit old old_n new_n h b img ≡ given img' → length img' ≡ length img
   moved_length img' e = go (is_full (get_or old b 0)) (allocating limit (tags_of new_n img) new_n h) e
@@ -59,24 +59,24 @@ module _ (limit : Limit) (old : List ℕ) (old_n new_n h b : ℕ) (img : List �
 
 -- the buckets one after the other
 module _ (limit : Limit) (old : List ℕ) (old_n new_n : ℕ) (hashes : List ℕ) where
-  pub grown-none : grown_to limit old old_n new_n hashes 0 ≡ given (zeroed new_n)
+  pub grown_none : grown_to limit old old_n new_n hashes 0 ≡ given (zeroed new_n)
   unfolding grown_to
-  grown-none = refl
+  grown_none = refl
 
-  pub grown-next : (k : ℕ) (img : List ℕ) → grown_to limit old old_n new_n hashes k ≡ given img
+  pub grown_next : (k : ℕ) (img : List ℕ) → grown_to limit old old_n new_n hashes k ≡ given img
       → grown_to limit old old_n new_n hashes (k + 1) ≡ bucket_moved limit old old_n new_n (get_or hashes k 0) k img
   unfolding grown_to
-  grown-next k img e =
+  grown_next k img e =
       ap (grown_to limit old old_n new_n hashes) (add-one k) ∙ ap (λ (a : Answer (List ℕ)). and_then a (bucket_moved limit old old_n new_n (get_or hashes k 0) k)) e
 
   -- a refusal stays
-  pub grown-stop : (k m d : ℕ) → grown_to limit old old_n new_n hashes k ≡ refused m → grown_to limit old old_n new_n hashes (k + d) ≡ refused m
+  pub grown_stop : (k m d : ℕ) → grown_to limit old old_n new_n hashes k ≡ refused m → grown_to limit old old_n new_n hashes (k + d) ≡ refused m
   unfolding grown_to
-  grown-stop k m zero e = let z : k + 0 ≡ k = omega arith in ap (grown_to limit old old_n new_n hashes) z ∙ e
-  grown-stop k m (suc d) e =
+  grown_stop k m zero e = let z : k + 0 ≡ k = omega arith in ap (grown_to limit old old_n new_n hashes) z ∙ e
+  grown_stop k m (suc d) e =
       let z : k + suc d ≡ suc (k + d) = omega arith in
       ap (grown_to limit old old_n new_n hashes) z
-      ∙ ap (λ (a : Answer (List ℕ)). and_then a (bucket_moved limit old old_n new_n (get_or hashes (k + d) 0) (k + d))) (grown-stop k m d e)
+      ∙ ap (λ (a : Answer (List ℕ)). and_then a (bucket_moved limit old old_n new_n (get_or hashes (k + d) 0) (k + d))) (grown_stop k m d e)
 
 -- what an answer without its image tells
 pub end_given : (x : Answer (List ℕ)) (img : List ℕ) → given (tt {0}) ≡ end_of (tt {0}) x → x ≡ given (image_or img x)
@@ -89,8 +89,8 @@ end_refused (refused k) m e = let z : m ≡ k = cc in ap refused (sym z)
 
 -- the counts allow a growth: then it goes by the lengths
 module _ (limit : Limit) (old : List ℕ) (old_n : ℕ) (new : List ℕ) (new_n : ℕ) (hashes : List ℕ) (p : count_allowed old_n ≡ true) (q : count_allowed new_n ≡ true) (l : old_n < new_n) where
-  pub copy-by-lengths : (t : Bool) → lengths_fit old old_n new new_n hashes ≡ t
+  pub copy_by_lengths : (t : Bool) → lengths_fit old old_n new new_n hashes ≡ t
       → (cond t (end_of done (copied limit old old_n new_n hashes)) (refused 2) ≡ growth_answer limit old old_n new new_n hashes)
       × (cond t (image_or (zeroed new_n) (copied limit old old_n new_n hashes)) new ≡ growth_image limit old old_n new new_n hashes)
-  copy-by-lengths t e =
+  copy_by_lengths t e =
       (rw (p, q, le-ltb new_n old_n (omega arith), ne_eqb new_n old_n (λ d. omega arith), e), rw (p, q, lt-ltb old_n new_n l, e))

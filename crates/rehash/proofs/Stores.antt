@@ -9,7 +9,7 @@ use native.Mathlib.Omega.{arith}
 use lib.ListN.{length, get_or, set, take, drop, replicate, length-set, length-drop, length-replicate, get_or-replicate}
 use lib.Seq.{get_or-set_same, get_or-set_other, get_or-take, get_or-drop, length-take-le, ext_get_or}
 use Rattle.blocks.specs.Blocks.{put}
-use Rattle.blocks.proofs.Laws.{put-length, put-left, block-length, block-get_or, block_same, block-put_sized, block-put_apart}
+use Rattle.blocks.proofs.Laws.{put-length, put_left, block-length, block-get_or, block_same, block-put_sized, block-put_apart}
 use Rattle.ht_file.specs.Places.{tags_length, image_length, page_start, tags_of}
 use Rattle.meta_map.specs.Tags.{Kind, empty, tombstone, full, other, kind_of, is_kind, full_tag, one, count_of, is_full}
 use Rattle.meta_map.proofs.Laws.{full_tag_kind, full_tag_not_empty, full_tag_not_tombstone, count_agree, count_set}
@@ -59,36 +59,36 @@ module _ (n : ℕ) (img : List ℕ) (long : length img ≡ image_length n) (c h 
   abbrev after : List ℕ
   after = put (set img c (full_tag h)) (page_start n c) page
 
-  tagged-long : length (set img c (full_tag h)) ≡ length img
-  tagged-long = length-set img c (full_tag h)
+  tagged_long : length (set img c (full_tag h)) ≡ length img
+  tagged_long = length-set img c (full_tag h)
 
   pub store_long : length (put (set img c (full_tag h)) (page_start n c) page) ≡ length img
-  store_long = put-length (set img c (full_tag h)) (page_start n c) page ∙ tagged-long
+  store_long = put-length (set img c (full_tag h)) (page_start n c) page ∙ tagged_long
 
   -- tags: the bucket's is the hash's, every other byte of the tag pages stays
-  pub store-tag : get_or (put (set img c (full_tag h)) (page_start n c) page) c 0 ≡ full_tag h
-  store-tag = put-left (set img c (full_tag h)) (page_start n c) page c (omega arith) ∙ get_or-set_same img c (full_tag h) 0 (omega (arith, long))
+  pub store_tag : get_or (put (set img c (full_tag h)) (page_start n c) page) c 0 ≡ full_tag h
+  store_tag = put_left (set img c (full_tag h)) (page_start n c) page c (omega arith) ∙ get_or-set_same img c (full_tag h) 0 (omega (arith, long))
 
-  pub store-tag-other : (i : ℕ) → i < tags_length n → (i ≡ c → ⊥) → get_or (put (set img c (full_tag h)) (page_start n c) page) i 0 ≡ get_or img i 0
-  store-tag-other i l f = put-left (set img c (full_tag h)) (page_start n c) page i (omega arith) ∙ get_or-set_other img c i (full_tag h) 0 f
+  pub store_tag_other : (i : ℕ) → i < tags_length n → (i ≡ c → ⊥) → get_or (put (set img c (full_tag h)) (page_start n c) page) i 0 ≡ get_or img i 0
+  store_tag_other i l f = put_left (set img c (full_tag h)) (page_start n c) page i (omega arith) ∙ get_or-set_other img c i (full_tag h) 0 f
 
   -- pages: the bucket's is the page, every other stays
-  pub store-page : page_at (put (set img c (full_tag h)) (page_start n c) page) n c ≡ page
-  store-page = block-put_sized 4096 (set img c (full_tag h)) (page_start n c) page size (omega (arith, tagged-long, long))
+  pub store_page : page_at (put (set img c (full_tag h)) (page_start n c) page) n c ≡ page
+  store_page = block-put_sized 4096 (set img c (full_tag h)) (page_start n c) page size (omega (arith, tagged_long, long))
 
-  pub store-page-other : (d : ℕ) → (d ≡ c → ⊥) → page_at (put (set img c (full_tag h)) (page_start n c) page) n d ≡ page_at img n d
-  store-page-other d f =
+  pub store_page_other : (d : ℕ) → (d ≡ c → ⊥) → page_at (put (set img c (full_tag h)) (page_start n c) page) n d ≡ page_at img n d
+  store_page_other d f =
       block-put_apart 4096 (set img c (full_tag h)) (page_start n c) page (page_start n d) (apart (dec_lt d c))
-      ∙ block_same 4096 (set img c (full_tag h)) img (page_start n d) tagged-long (λ i l. get_or-set_other img c (page_start n d + i) (full_tag h) 0 (λ e. omega arith))
+      ∙ block_same 4096 (set img c (full_tag h)) img (page_start n d) tagged_long (λ i l. get_or-set_other img c (page_start n d + i) (full_tag h) 0 (λ e. omega arith))
     where
       apart : Dec (d < c) → (page_start n d + 4096 ≤ page_start n c) ⊎ (page_start n c + length page ≤ page_start n d)
       apart (yes p) = inl (omega arith)
       apart (no p) = inr (omega (arith, size, p, f))
 
   -- one full bucket more, where the tag was not full
-  pub store-count : is_full (get_or img c 0) ≡ false → count_of full (put (set img c (full_tag h)) (page_start n c) page) n ≡ count_of full img n + 1
-  store-count e =
-      count_agree full (put (set img c (full_tag h)) (page_start n c) page) (set img c (full_tag h)) n (λ i l. put-left (set img c (full_tag h)) (page_start n c) page i (omega arith))
+  pub store_count : is_full (get_or img c 0) ≡ false → count_of full (put (set img c (full_tag h)) (page_start n c) page) n ≡ count_of full img n + 1
+  store_count e =
+      count_agree full (put (set img c (full_tag h)) (page_start n c) page) (set img c (full_tag h)) n (λ i l. put_left (set img c (full_tag h)) (page_start n c) page i (omega arith))
       ∙ omega (arith, count_set full img c (full_tag h) n below (omega (arith, long)), ap one e, ap one (full_tag_full h))
 
 -- a zeroed image

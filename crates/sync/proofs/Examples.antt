@@ -21,7 +21,7 @@ use Rattle.wal.proofs.Examples.{seed}
 use Rattle.wal.specs.declared.Writer.TheVariants.{Fresh, Finished}
 use Rattle.recover.specs.Places.{with_hashes}
 use Rattle.recover.specs.Replay.{applied, all_inside, updates_in, check_answer, replay_tests, replay_answer, replay_image, steps_of, step_image}
-use Rattle.sync.proofs.Labels.{Labelled, elsewhere, step-labelled, replay-labelled}
+use Rattle.sync.proofs.Labels.{Labelled, elsewhere, step_labelled, replay_labelled}
 use Rattle.sync.specs.Change.{Mem, mem_of, where_of, place_of, does_of, cleared, effect_of, mem_by, state_of, state_by, page_number, taken_said}
 use Rattle.sync.specs.Sync.{change_at, change_mem, all_of, mem_all, run_said, on, unbegun, stopped, before_changes, said_done, said_refused, said_refused_at, sync_says, sync_mem, sync_writer, synced_said}
 use Rattle.sync.proofs.Narrowed.{former_effect}
@@ -203,8 +203,8 @@ pub labels : Labelled 1 (replay_image Zeros 1 (replicate 8192 0) label_log (reco
     × Labelled 1 (step_image Zeros 1 (replicate 8192 0) One label_log 14 0) 0 0 (replicate 32 1) (replicate 8 2)
 unfolding elsewhere
 labels = (
-  replay-labelled Zeros 1 (replicate 8192 0) label_log (record { sync = 7; seed = replicate 16 0 }) (0 ∷ []) accepted (record { entry = clear 0; hash = 0 } ∷ []) [] (replicate 32 1) (1 ∷ 0 ∷ []) (replicate 32 5 ∷ []) (replicate 8 2) 0 0 its_steps refl refl refl,
-  step-labelled Zeros 1 (replicate 8192 0) One label_log 14 0 (replicate 32 1) (1 ∷ 0 ∷ []) (replicate 32 5 ∷ []) (replicate 8 2) 0 111 refl its_second (omega arith) refl refl,
+  replay_labelled Zeros 1 (replicate 8192 0) label_log (record { sync = 7; seed = replicate 16 0 }) (0 ∷ []) accepted (record { entry = clear 0; hash = 0 } ∷ []) [] (replicate 32 1) (1 ∷ 0 ∷ []) (replicate 32 5 ∷ []) (replicate 8 2) 0 0 its_steps refl refl refl,
+  step_labelled Zeros 1 (replicate 8192 0) One label_log 14 0 (replicate 32 1) (1 ∷ 0 ∷ []) (replicate 32 5 ∷ []) (replicate 8 2) 0 111 refl its_second (omega arith) refl refl,
 )
 
 -- a clear that `Narrowed` speaks of: bucket 0 is full with another tag. Document 01's rule took it; it is refused with 14, and its own is taken

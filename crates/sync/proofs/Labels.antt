@@ -14,7 +14,7 @@ use lib.ListN.{length, get_or, take, drop, length-drop}
 use lib.Seq.{ext_get_or, length-take-le, get_or-take, get_or-drop}
 use borrow.Author.Tests.{le-leb, lt-leb, lt-ltb, le-ltb, eq-eqb, ne_eqb, eqb-false, ltb-true, not-true}
 use Rattle.answers.specs.Answers.{given, refused}
-use Rattle.answers.proofs.Laws.{given-refused}
+use Rattle.answers.proofs.Laws.{given_refused}
 use Rattle.blocks.specs.Blocks.{block}
 use Rattle.blocks.proofs.Laws.{block-length}
 use Rattle.ht_file.specs.Places.{image_length, page_start, image_fits}
@@ -23,7 +23,7 @@ use Rattle.meta_map.specs.Tags.{full_tag}
 use Rattle.page_diff.specs.Diff.{marked, slots}
 use Rattle.page_diff.specs.Pack.{node_at, rank}
 use Rattle.probe.specs.Path.{page_end, holds}
-use Rattle.probe.proofs.Promises.{page-holds}
+use Rattle.probe.proofs.Promises.{page_holds}
 use Rattle.wal.specs.declared.AfterEnd.{AfterEnd}
 use Rattle.wal.specs.declared.AfterEnd.TheVariants.{Tolerant}
 use Rattle.wal.specs.declared.Edition.{Edition}
@@ -33,10 +33,10 @@ use Rattle.wal.specs.Reader.{next, next_by, read_log}
 use Rattle.wal_write.specs.Calls.{page_update}
 use Rattle.recover.specs.Places.{Step, with_hashes, in_page, page_named, entry_names, page_gives, entry_gives, named_in, replayed, stepped}
 use Rattle.recover.specs.Replay.{bucket_of, all_inside, check_answer, after_entries, applied, replay_answer, replay_image, steps_of, step_image, updates_in}
-use Rattle.recover.proofs.Demand3.{stepped_at, stepped-length, replayed-length, replayed-other, replayed_step, replayed-append}
+use Rattle.recover.proofs.Demand3.{stepped_at, stepped-length, replayed-length, replayed_other, replayed_step, replayed-append}
 use Rattle.recover.proofs.OneImage.{applied_image}
 use Rattle.recover.proofs.Replays.{applied_told}
-use Rattle.recover.proofs.Steps.{step-taken}
+use Rattle.recover.proofs.Steps.{step_taken}
 use Rattle.recover.specs.declared.Expected.{Expected}
 
 -- bucket b holds the page with the hash h: its tag is the hash's, its page ends in the elided children and the id, and
@@ -55,16 +55,16 @@ part_is s l from k fits long each =
     (λ i h. let q : i < k = omega (arith, part_long) in get_or-take k (drop from s) i 0 q ∙ get_or-drop from s i 0 ∙ each i q)
 
 -- an image whose tag and last 40 bytes are those that an update gives
-module _ (n b h : ℕ) (id ws : List ℕ) (ns : List (List ℕ)) (el image : List ℕ) (long : length image ≡ image_length n) (inside : b < n) (id-long : length id ≡ 32) (el-long : length el ≡ 8) where
+module _ (n b h : ℕ) (id ws : List ℕ) (ns : List (List ℕ)) (el image : List ℕ) (long : length image ≡ image_length n) (inside : b < n) (id_long : length id ≡ 32) (el-long : length el ≡ 8) where
   by_bytes : get_or image b 0 ≡ full_tag h → ((o : ℕ) → 4056 ≤ o → o < 4096 → get_or image (page_start n b + o) 0 ≡ page_gives id ws ns el o) → Labelled n image b h id el
   by_bytes t f =
       let fits : page_start n b + 4096 ≤ length image = omega (arith, long) in
-      let e : page_end image n b ≡ id = part_is image id (page_start n b + 4064) 32 (omega arith) id-long ids in
+      let e : page_end image n b ≡ id = part_is image id (page_start n b + 4064) 32 (omega arith) id_long ids in
       record {
         tag = t;
         ends = e;
         elided = part_is image el (page_start n b + 4056) 8 (omega arith) el-long els;
-        held = page-holds image n h id b (t, e);
+        held = page_holds image n h id b (t, e);
       }
     where
       ids : (i : ℕ) → i < 32 → get_or image (page_start n b + 4064 + i) 0 ≡ get_or id i 0
@@ -85,17 +85,17 @@ module _ (n b h : ℕ) (id ws : List ℕ) (ns : List (List ℕ)) (el image : Lis
 
 -- what an update gives the bytes of its label
 module _ (n b h : ℕ) (id ws : List ℕ) (ns : List (List ℕ)) (el : List ℕ) (inside : b < n) where
-  tag-given : (entry_names n (update id ws ns el b) b ≡ true) × (entry_gives n (update id ws ns el b) h b ≡ full_tag h)
+  tag_given : (entry_names n (update id ws ns el b) b ≡ true) × (entry_gives n (update id ws ns el b) h b ≡ full_tag h)
   unfolding entry_names entry_gives
-  tag-given =
+  tag_given =
       let e : eqb b b ≡ true = eq-eqb b b refl in (
         ap (λ (t : Bool). t || (in_page n b b && page_named ws (b - page_start n b))) e,
         ap (λ (t : Bool). cond t (full_tag h) (page_gives id ws ns el (b - page_start n b))) e,
       )
 
-  label-given : (o : ℕ) → 4056 ≤ o → o < 4096 → (entry_names n (update id ws ns el b) (page_start n b + o) ≡ true) × (entry_gives n (update id ws ns el b) h (page_start n b + o) ≡ page_gives id ws ns el o)
+  label_given : (o : ℕ) → 4056 ≤ o → o < 4096 → (entry_names n (update id ws ns el b) (page_start n b + o) ≡ true) × (entry_gives n (update id ws ns el b) h (page_start n b + o) ≡ page_gives id ws ns el o)
   unfolding entry_names entry_gives
-  label-given o l q =
+  label_given o l q =
       let j : ℕ = page_start n b + o in
       let not-tag : eqb (page_start n b + o) b ≡ false = ne_eqb (page_start n b + o) b (λ e. omega arith) in
       let within : in_page n b (page_start n b + o) ≡ true = ap₂ ◌&&◌ (le-leb (page_start n b) (page_start n b + o) (omega arith)) (lt-ltb (page_start n b + o) (page_start n b + 4096) (omega arith)) in
@@ -107,31 +107,31 @@ module _ (n b h : ℕ) (id ws : List ℕ) (ns : List (List ℕ)) (el : List ℕ)
       )
 
   -- the image after it
-  module _ (image : List ℕ) (long : length image ≡ image_length n) (id-long : length id ≡ 32) (el-long : length el ≡ 8) where
+  module _ (image : List ℕ) (long : length image ≡ image_length n) (id_long : length id ≡ 32) (el-long : length el ≡ 8) where
     abbrev the_update : Step
     the_update = record { entry = update id ws ns el b; hash = h }
 
-    stepped-byte : (j v : ℕ) → j < length image → (entry_names n (update id ws ns el b) j ≡ true) × (entry_gives n (update id ws ns el b) h j ≡ v) → get_or (stepped n the_update image) j 0 ≡ v
-    stepped-byte j v l g =
+    stepped_byte : (j v : ℕ) → j < length image → (entry_names n (update id ws ns el b) j ≡ true) × (entry_gives n (update id ws ns el b) h j ≡ v) → get_or (stepped n the_update image) j 0 ≡ v
+    stepped_byte j v l g =
         stepped_at n the_update image j l ∙ ap (λ (t : Bool). cond t (entry_gives n (update id ws ns el b) h j) (get_or image j 0)) g.0 ∙ g.1
 
-    pub stepped-labelled : Labelled n (stepped n the_update image) b h id el
-    stepped-labelled =
-        by_bytes n b h id ws ns el (stepped n the_update image) (stepped-length n the_update image ∙ long) inside id-long el-long (stepped-byte b (full_tag h) (omega (arith, long)) tag-given)
-        (λ o l q. stepped-byte (page_start n b + o) (page_gives id ws ns el o) (omega (arith, long)) (label-given o l q))
+    pub stepped_labelled : Labelled n (stepped n the_update image) b h id el
+    stepped_labelled =
+        by_bytes n b h id ws ns el (stepped n the_update image) (stepped-length n the_update image ∙ long) inside id_long el-long (stepped_byte b (full_tag h) (omega (arith, long)) tag_given)
+        (λ o l q. stepped_byte (page_start n b + o) (page_gives id ws ns el o) (omega (arith, long)) (label_given o l q))
 
 -- ---- one step of replay: what `apply_entry` leaves where an update of a bucket inside the table stands at its position
-pub step-labelled : (rule : AfterEnd) (n : ℕ) (image : List ℕ) (ed : Edition) (log : List ℕ) (at h : ℕ) (id ws : List ℕ) (ns : List (List ℕ)) (el : List ℕ) (b p : ℕ) → image_fits n (length image) ≡ true → next_by rule ed log at ≡ next (update id ws ns el b) p
+pub step_labelled : (rule : AfterEnd) (n : ℕ) (image : List ℕ) (ed : Edition) (log : List ℕ) (at h : ℕ) (id ws : List ℕ) (ns : List (List ℕ)) (el : List ℕ) (b p : ℕ) → image_fits n (length image) ≡ true → next_by rule ed log at ≡ next (update id ws ns el b) p
     → b < n → length id ≡ 32 → length el ≡ 8 → Labelled n (step_image rule n image ed log at h) b h id el
-step-labelled rule n image ed log at h id ws ns el b p fits here inside id-long el-long =
-    subst (λ (l : List ℕ). Labelled n l b h id el) (step-taken rule n image ed log at h fits (update id ws ns el b) p here inside).1
-    (stepped-labelled n b h id ws ns el inside image (image_fits_facts n (length image) fits).2 id-long el-long)
+step_labelled rule n image ed log at h id ws ns el b p fits here inside id_long el-long =
+    subst (λ (l : List ℕ). Labelled n l b h id el) (step_taken rule n image ed log at h fits (update id ws ns el b) p here inside).1
+    (stepped_labelled n b h id ws ns el inside image (image_fits_facts n (length image) fits).2 id_long el-long)
 
 -- and where it is the update that a sync logs of a page: the elided children stand where they stood in that page
-pub logged-labelled : (rule : AfterEnd) (n : ℕ) (image : List ℕ) (ed : Edition) (log : List ℕ) (at h : ℕ) (id ws page : List ℕ) (b p : ℕ) → image_fits n (length image) ≡ true → next_by rule ed log at ≡ next (page_update id ws page b) p
+pub logged_labelled : (rule : AfterEnd) (n : ℕ) (image : List ℕ) (ed : Edition) (log : List ℕ) (at h : ℕ) (id ws page : List ℕ) (b p : ℕ) → image_fits n (length image) ≡ true → next_by rule ed log at ≡ next (page_update id ws page b) p
     → b < n → length id ≡ 32 → Labelled n (step_image rule n image ed log at h) b h id (block 8 page 4056)
-logged-labelled rule n image ed log at h id ws page b p fits here inside id-long =
-    step-labelled rule n image ed log at h id ws (map (node_at page) (slots ws)) (block 8 page 4056) b p fits here inside id-long (block-length 8 page 4056)
+logged_labelled rule n image ed log at h id ws page b p fits here inside id_long =
+    step_labelled rule n image ed log at h id ws (map (node_at page) (slots ws)) (block 8 page 4056) b p fits here inside id_long (block-length 8 page 4056)
 
 -- ---- a whole replay
 -- no entry is of bucket b
@@ -166,19 +166,19 @@ module _ (n b : ℕ) (inside : b < n) where
   other_tag c j l q (inl e) = ne_eqb j c (λ z. q (sym z ∙ e))
   other_tag c j l q (inr r) = ne_eqb j c (λ z. omega (arith, r.0))
 
-  other-page : (c j : ℕ) → c < n → (c ≡ b → ⊥) → OfBucket j → in_page n c j ≡ false
-  other-page c j l q (inl e) = ap (λ (t : Bool). t && ltb j (page_start n c + 4096)) (lt-leb (page_start n c) j (omega arith))
-  other-page c j l q (inr r) = go (dec_le (b + 1) c) (dec_le (c + 1) b)
+  other_page : (c j : ℕ) → c < n → (c ≡ b → ⊥) → OfBucket j → in_page n c j ≡ false
+  other_page c j l q (inl e) = ap (λ (t : Bool). t && ltb j (page_start n c + 4096)) (lt-leb (page_start n c) j (omega arith))
+  other_page c j l q (inr r) = go (dec_le (b + 1) c) (dec_le (c + 1) b)
     where
       go : Dec (b + 1 ≤ c) → Dec (c + 1 ≤ b) → in_page n c j ≡ false
       go (yes x) y = ap (λ (t : Bool). t && ltb j (page_start n c + 4096)) (lt-leb (page_start n c) j (omega (arith, r.1)))
       go (no x) (yes y) = ap₂ ◌&&◌ (le-leb (page_start n c) j (omega (arith, r.0))) (le-ltb j (page_start n c + 4096) (omega (arith, r.0)))
       go (no x) (no y) = let same : c ≡ b = omega (arith, lt_of_not-le x, lt_of_not-le y) in absurd (q same)
 
-  other-entry : (e : Entry) (j : ℕ) → bucket_of e < n → (bucket_of e ≡ b → ⊥) → OfBucket j → entry_names n e j ≡ false
+  other_entry : (e : Entry) (j : ℕ) → bucket_of e < n → (bucket_of e ≡ b → ⊥) → OfBucket j → entry_names n e j ≡ false
   unfolding entry_names
-  other-entry (clear c) j l q o = other_tag c j l q o
-  other-entry (update id ws ns el c) j l q o = ap₂ (λ (t u : Bool). t || (u && page_named ws (j - page_start n c))) (other_tag c j l q o) (other-page c j l q o)
+  other_entry (clear c) j l q o = other_tag c j l q o
+  other_entry (update id ws ns el c) j l q o = ap₂ (λ (t u : Bool). t || (u && page_named ws (j - page_start n c))) (other_tag c j l q o) (other_page c j l q o)
 
   unnamed : (ss : List Step) → inside_all n ss ≡ true → elsewhere b ss ≡ true → (j : ℕ) → OfBucket j → named_in n ss j ≡ false
   unfolding inside_all elsewhere named_in
@@ -186,7 +186,7 @@ module _ (n b : ℕ) (inside : b < n) where
   unnamed (s ∷ ss) i e j o =
       let x = both_hold (ltb (bucket_of s.entry) n) (inside_all n ss) i in
       let y = both_hold (not (eqb (bucket_of s.entry) b)) (elsewhere b ss) e in
-      ap₂ ◌||◌ (other-entry s.entry j (ltb-true (bucket_of s.entry) n x.0) (eqb-false (bucket_of s.entry) b (not-true (eqb (bucket_of s.entry) b) y.0)) o) (unnamed ss x.1 y.1 j o)
+      ap₂ ◌||◌ (other_entry s.entry j (ltb-true (bucket_of s.entry) n x.0) (eqb-false (bucket_of s.entry) b (not-true (eqb (bucket_of s.entry) b) y.0)) o) (unnamed ss x.1 y.1 j o)
 
 -- the check of an accepted log has found its buckets inside the table
 check_inside : (rule : AfterEnd) (n : ℕ) (log : List ℕ) (hashes : ℕ) → check_answer rule n log hashes ≡ given tt → all_inside n (read_log rule log).entries ≡ true
@@ -196,14 +196,14 @@ check_inside rule n log hashes e = go (all_inside n (read_log rule log).entries)
     go : (t : Bool) → all_inside n (read_log rule log).entries ≡ t → cond t (after_entries (read_log rule log).stop (cond (eqb hashes (updates_in (read_log rule log).entries)) (given tt) (refused 2))) (refused 9) ≡ given tt
         → all_inside n (read_log rule log).entries ≡ true
     go true p q = p
-    go false p q = absurd (given-refused tt 9 (sym q))
+    go false p q = absurd (given_refused tt 9 (sym q))
 
 -- what `recover` leaves where it answers applied: the label of the last update of a bucket that no later entry is of
-pub replay-labelled : (rule : AfterEnd) (n : ℕ) (table log : List ℕ) (want : Expected) (hashes : List ℕ) → replay_answer rule n table log want hashes ≡ given applied
+pub replay_labelled : (rule : AfterEnd) (n : ℕ) (table log : List ℕ) (want : Expected) (hashes : List ℕ) → replay_answer rule n table log want hashes ≡ given applied
     → (before after : List Step) (id ws : List ℕ) (ns : List (List ℕ)) (el : List ℕ) (b h : ℕ) → steps_of log hashes ≡ before ++ (record { entry = update id ws ns el b; hash = h } ∷ after)
     → elsewhere b after ≡ true → length id ≡ 32 → length el ≡ 8 → Labelled n (replay_image rule n table log want hashes) b h id el
 unfolding inside_all
-replay-labelled rule n table log want hashes ok before after id ws ns el b h split away id-long el-long =
+replay_labelled rule n table log want hashes ok before after id ws ns el b h split away id_long el-long =
     let s : Step = record { entry = update id ws ns el b; hash = h } in
     let told = applied_told rule n (length table) log want (length hashes) ok in
     let long : length table ≡ image_length n = (image_fits_facts n (length table) told.0).2 in
@@ -212,15 +212,15 @@ replay-labelled rule n table log want hashes ok before after id ws ns el b h spl
     let here = both_hold (ltb b n) (inside_all n after) all_in in
     let inside : b < n = ltb-true b n here.0 in
     let first : List ℕ = replayed n before table in
-    let first-long : length first ≡ image_length n = replayed-length n before table ∙ long in
+    let first_long : length first ≡ image_length n = replayed-length n before table ∙ long in
     let then : List ℕ = stepped n s first in
-    let then-long : length then ≡ image_length n = stepped-length n s first ∙ first-long in
+    let then-long : length then ≡ image_length n = stepped-length n s first ∙ first_long in
     let image-is : replay_image rule n table log want hashes ≡ replayed n after then =
     applied_image rule n table log want hashes ok ∙ ap (λ (ss : List Step). replayed n ss table) split ∙ replayed-append n before (s ∷ after) table ∙ replayed_step n s after first in
     let byte : (j v : ℕ) → j < length then → OfBucket n b inside j → get_or then j 0 ≡ v → get_or (replayed n after then) j 0 ≡ v =
-    λ j v q o e. replayed-other n after then j q (unnamed n b inside after here.1 away j o) ∙ e in
+    λ j v q o e. replayed_other n after then j q (unnamed n b inside after here.1 away j o) ∙ e in
     subst (λ (i : List ℕ). Labelled n i b h id el) (sym image-is)
-    (by_bytes n b h id ws ns el (replayed n after then) (replayed-length n after then ∙ then-long) inside id-long el-long
-    (byte b (full_tag h) (omega (arith, then-long)) (inl refl) (stepped-byte n b h id ws ns el inside first first-long id-long el-long b (full_tag h) (omega (arith, first-long)) (tag-given n b h id ws ns el inside)))
+    (by_bytes n b h id ws ns el (replayed n after then) (replayed-length n after then ∙ then-long) inside id_long el-long
+    (byte b (full_tag h) (omega (arith, then-long)) (inl refl) (stepped_byte n b h id ws ns el inside first first_long id_long el-long b (full_tag h) (omega (arith, first_long)) (tag_given n b h id ws ns el inside)))
     (λ o l q. byte (page_start n b + o) (page_gives id ws ns el o) (omega (arith, then-long)) (inr (omega arith, omega arith))
-    (stepped-byte n b h id ws ns el inside first first-long id-long el-long (page_start n b + o) (page_gives id ws ns el o) (omega (arith, first-long)) (label-given n b h id ws ns el inside o l q))))
+    (stepped_byte n b h id ws ns el inside first first_long id_long el-long (page_start n b + o) (page_gives id ws ns el o) (omega (arith, first_long)) (label_given n b h id ws ns el inside o l q))))

@@ -18,8 +18,8 @@ use Rattle.sync_parts.specs.Parts.{Named, bucket, none, named_by, tag_fits}
 use Rattle.sync.specs.Change.{where_of, Mem, updates, does_with, by_named, does_of, Effect, cleared, updated, allocated, bucket_of, effect_of, entry_by, tags_by}
 use Rattle.sync.specs.declared.Change.{Change}
 use Rattle.sync.specs.declared.SyncState.{SyncState}
-use Rattle.sync.proofs.Accepted.{after-updated, accepted_change}
-use Rattle.sync.proofs.Plans.{past-spare}
+use Rattle.sync.proofs.Accepted.{after_updated, accepted_change}
+use Rattle.sync.proofs.Plans.{past_spare}
 use Rattle.sync.proofs.Untouched.{set_at}
 
 -- a named bucket that is to be updated has the hash's tag
@@ -53,8 +53,8 @@ tags_as_entry st m page c (updated b) h i l = go (eqb i b) refl
   where
     tag : get_or m.tags b 0 ≡ full_tag c.hash
     tag =
-        let d = after-updated st m c (does_of st.n m.tags m.cells c) b (accepted_change st m page c (updated b) h).2 in
-        named_tag (marked c.diff.words 127) st.n m.tags c.hash (named_by (where_of c.place) m.cells) b (past-spare st.n m.tags m.cells c (updates b) d.0).1
+        let d = after_updated st m c (does_of st.n m.tags m.cells c) b (accepted_change st m page c (updated b) h).2 in
+        named_tag (marked c.diff.words 127) st.n m.tags c.hash (named_by (where_of c.place) m.cells) b (past_spare st.n m.tags m.cells c (updates b) d.0).1
 
     go : (t : Bool) → eqb i b ≡ t → get_or m.tags i 0 ≡ cond t (entry_gives st.n (entry_by c page (updated b)) c.hash i) (get_or m.tags i 0)
     go false q = refl

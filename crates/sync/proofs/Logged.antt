@@ -9,34 +9,34 @@ use lib.ListN.{length, take}
 use denote.Enum.Declared.{tag_of}
 use borrow.Author.Tests.{eqb-true}
 use Rattle.answers.specs.Answers.{Answer, given, refused, accepted}
-use Rattle.answers.proofs.Laws.{given-one, given-refused}
+use Rattle.answers.proofs.Laws.{given_one, given_refused}
 use Rattle.blocks.specs.Blocks.{block}
 use Rattle.blocks.proofs.Laws.{block-length}
 use Rattle.ht_file.specs.Places.{tags_fit, tag_pages}
 use Rattle.ht_file.proofs.Laws.{tags_fit_facts}
 use Rattle.page_diff.specs.Diff.{reserved, count_of}
 use Rattle.probe.specs.Path.{allocating, allocate_answer}
-use Rattle.probe.proofs.Allocating.{answer-below}
+use Rattle.probe.proofs.Allocating.{answer_below}
 use Rattle.wal.specs.Log.{Entry, update_body, finished_length}
 use Rattle.wal.specs.Reader.{start_of, read_log}
-use Rattle.wal.specs.Run.{Wide as WideUpdate, Run, begun, with-clear, WideStart, end_of}
+use Rattle.wal.specs.Run.{Wide as WideUpdate, Run, begun, with_clear_lem, WideStart, end_of}
 use Rattle.wal.specs.Writer.{begin_answer, begin_log, finish_answer, finish_log}
 use Rattle.wal.specs.declared.Writer.{Writer}
 use Rattle.wal.specs.declared.Writer.TheVariants.{Fresh}
 use Rattle.wal.specs.contracts.Writer as WriterT
-use Rattle.wal.proofs.RoundTrip.{run_made, finish-fits, round-trip-start, round_trip}
+use Rattle.wal.proofs.RoundTrip.{run_made, finish_fits, round_trip_start, round_trip}
 use Rattle.wal_write.specs.Calls.{room_in, clear_writer, page_update, page_update_writer}
-use Rattle.wal_write.proofs.PageUpdates.{run-page}
+use Rattle.wal_write.proofs.PageUpdates.{run_page}
 use Rattle.wal.specs.declared.AfterEnd.{AfterEnd}
 use Rattle.wal.specs.declared.Start.{Start}
-use Rattle.sync.specs.Change.{Wide, AllWide, none-wide, more-wide, Mem, mem_of, does_of, Effect, cleared, updated, allocated, effect_of, entry_by, mem_by, state_by}
+use Rattle.sync.specs.Change.{Wide, AllWide, none_wide, more_wide, Mem, mem_of, does_of, Effect, cleared, updated, allocated, effect_of, entry_by, mem_by, state_by}
 use Rattle.sync.specs.Sync.{page_of, Came, through, refused_at, or_rest, or_mem, change_at, change_mem, all_of, mem_all, entries_by, entries_of, before_changes, start_mem, start_state, said_done, said_finish, said_by, said_if, kept_if, log_after, came, left, sync_says, sync_mem}
 use Rattle.sync.specs.declared.Change.{Change}
 use Rattle.sync.specs.declared.SyncState.{SyncState}
-use Rattle.sync.proofs.Accepted.{after-cleared, after-updated, after-allocated, accepted_change}
-use Rattle.sync.proofs.Plans.{does-clears, does-updates, does-allocates}
-use Rattle.sync.proofs.StartLaws.{begun-open}
-use Rattle.sync.proofs.StepLaws.{Opened, clear-taken, page-taken, clear-state, clear-bytes, page-state, page-bytes}
+use Rattle.sync.proofs.Accepted.{after_cleared, after_updated, after_allocated, accepted_change}
+use Rattle.sync.proofs.Plans.{does_clears, does_updates, does_allocates}
+use Rattle.sync.proofs.StartLaws.{begun_open}
+use Rattle.sync.proofs.StepLaws.{Opened, clear_taken, page_taken, clear_state, clear_bytes_lem, page_state, page_bytes}
 
 -- one accepted change is one more call of the run
 module _ (log₀ : List ℕ) (start : Start) (st : SyncState) (m : Mem) (page : List ℕ) (c : Change) (es : List Entry) (run : Run log₀ start st.writer m.log es) (sized : Wide c) where
@@ -58,36 +58,36 @@ module _ (log₀ : List ℕ) (start : Start) (st : SyncState) (m : Mem) (page : 
   small : (b : ℕ) → b < st.n → tags_fit st.n (length m.tags) ≡ true → b < 2 ^ 64
   small b h f = omega (arith, tags_fit_facts st.n (length m.tags) f)
 
-  page-went : (b : ℕ) → b < 2 ^ 64 → length page ≡ 4096 → reserved ws ≡ false → room_in (length l) w (update_body (count_of ws)) ≡ true → Went (updated b)
-  page-went b h long plain room =
-      let k = page-taken w l ws page opened long plain room in
+  page_went : (b : ℕ) → b < 2 ^ 64 → length page ≡ 4096 → reserved ws ≡ false → room_in (length l) w (update_body (count_of ws)) ≡ true → Went (updated b)
+  page_went b h long plain room =
+      let k = page_taken w l ws page opened long plain room in
       let wide : WideUpdate c.id ws (block 8 page 4056) b = record {
         change = sized;
-        elided-long = block-length 8 page 4056;
+        elided_long = block-length 8 page 4056;
         bucket = h;
       } in
-      let r = run-page c.id ws page b wide log₀ start w l es run (ap accepted k) in
-      subst (λ (x : Writer). Run log₀ start x (mem_by (given (updated b)) st m page c).log (es ++ (page_update c.id ws page b ∷ []))) (page-state w l ws page k)
-      (subst (λ (x : List ℕ). Run log₀ start (page_update_writer l w ws page) x (es ++ (page_update c.id ws page b ∷ []))) (page-bytes w l ws page k c.id b) r)
+      let r = run_page c.id ws page b wide log₀ start w l es run (ap accepted k) in
+      subst (λ (x : Writer). Run log₀ start x (mem_by (given (updated b)) st m page c).log (es ++ (page_update c.id ws page b ∷ []))) (page_state w l ws page k)
+      (subst (λ (x : List ℕ). Run log₀ start (page_update_writer l w ws page) x (es ++ (page_update c.id ws page b ∷ []))) (page_bytes w l ws page k c.id b) r)
 
-  pub change-logged : (e : Effect) → effect_of st m page c ≡ given e → Went e
-  change-logged (cleared b) h =
+  pub change_logged : (e : Effect) → effect_of st m page c ≡ given e → Went e
+  change_logged (cleared b) h =
       let a = accepted_change st m page c (cleared b) h in
-      let d = after-cleared st m c (does_of st.n m.tags m.cells c) b a.2 in
-      let k = clear-taken w l opened d.1 in
-      let r = with-clear w l es b run (small b (does-clears st.n m.tags m.cells c b d.0) a.0) (ap accepted k) in
-      subst (λ (x : Writer). Run log₀ start x (mem_by (given (cleared b)) st m page c).log (es ++ (entry_by c page (cleared b) ∷ []))) (clear-state w l k)
-      (subst (λ (x : List ℕ). Run log₀ start (clear_writer l w) x (es ++ (entry_by c page (cleared b) ∷ []))) (clear-bytes w l k b) r)
-  change-logged (updated b) h =
+      let d = after_cleared st m c (does_of st.n m.tags m.cells c) b a.2 in
+      let k = clear_taken w l opened d.1 in
+      let r = with_clear_lem w l es b run (small b (does_clears st.n m.tags m.cells c b d.0) a.0) (ap accepted k) in
+      subst (λ (x : Writer). Run log₀ start x (mem_by (given (cleared b)) st m page c).log (es ++ (entry_by c page (cleared b) ∷ []))) (clear_state w l k)
+      (subst (λ (x : List ℕ). Run log₀ start (clear_writer l w) x (es ++ (entry_by c page (cleared b) ∷ []))) (clear_bytes_lem w l k b) r)
+  change_logged (updated b) h =
       let a = accepted_change st m page c (updated b) h in
-      let d = after-updated st m c (does_of st.n m.tags m.cells c) b a.2 in
-      let q = does-updates st.n m.tags m.cells c b d.0 in
-      page-went b (small b q.0 a.0) a.1 q.1 d.1
-  change-logged (allocated b) h =
+      let d = after_updated st m c (does_of st.n m.tags m.cells c) b a.2 in
+      let q = does_updates st.n m.tags m.cells c b d.0 in
+      page_went b (small b q.0 a.0) a.1 q.1 d.1
+  change_logged (allocated b) h =
       let a = accepted_change st m page c (allocated b) h in
-      let d = after-allocated st m c (does_of st.n m.tags m.cells c) b a.2 in
+      let d = after_allocated st m c (does_of st.n m.tags m.cells c) b a.2 in
       let f : allocate_answer st.limit m.tags st.n c.hash ≡ given b = ap (λ (t : Bool). cond t (allocating st.limit m.tags st.n c.hash) (refused 1)) a.0 ∙ d.2 in
-      page-went b (small b (answer-below st.limit m.tags st.n c.hash b f).0 a.0) a.1 (does-allocates st.n m.tags m.cells c d.0) d.1
+      page_went b (small b (answer_below st.limit m.tags st.n c.hash b f).0 a.0) a.1 (does_allocates st.n m.tags m.cells c d.0) d.1
 
 -- the changes, as far as they came, are a run of that many calls more
 abbrev Runs : List ℕ → Start → List ℕ → List Change → Type 0
@@ -97,8 +97,8 @@ Runs log₀ start pages cs =
 
 pub all_logged : (log₀ : List ℕ) (start : Start) (pages : List ℕ) (cs : List Change) → AllWide cs → Runs log₀ start pages cs
 unfolding all_of mem_all change_at change_mem entries_of
-all_logged log₀ start pages [] none-wide m j st es run = subst (Run log₀ start st.writer m.log) (sym (append-nil es)) run
-all_logged log₀ start pages (c ∷ cs) (more-wide z zs) m j st es run = go (effect_of st m (page_of pages j) c) refl (all_logged log₀ start pages cs zs)
+all_logged log₀ start pages [] none_wide m j st es run = subst (Run log₀ start st.writer m.log) (sym (append-nil es)) run
+all_logged log₀ start pages (c ∷ cs) (more_wide z zs) m j st es run = go (effect_of st m (page_of pages j) c) refl (all_logged log₀ start pages cs zs)
   where
     go : (e : Answer Effect) → effect_of st m (page_of pages j) c ≡ e → Runs log₀ start pages cs
         → Run log₀ start (or_rest (change_at m pages c j st).came (change_at m pages c j st) (all_of (change_mem m pages c j st) pages cs (j + 1) (change_at m pages c j st).state)).state.writer
@@ -111,7 +111,7 @@ all_logged log₀ start pages (c ∷ cs) (more-wide z zs) m j st es run = go (ef
         let x : Entry = entry_by c page e in
         rw (h)
         (subst (Run log₀ start (all_of m' pages cs (j + 1) st').state.writer (mem_all m' pages cs (j + 1) st').log) (append_assoc es (x ∷ []) (entries_of m' pages cs (j + 1) st'))
-        (rest m' (j + 1) st' (es ++ (x ∷ [])) (change-logged log₀ start st m page c es run z e h)))
+        (rest m' (j + 1) st' (es ++ (x ∷ [])) (change_logged log₀ start st m page c es run z e h)))
     go (refused k) h rest = rw (h) (subst (Run log₀ start st.writer m.log) (sym (append-nil es)) run)
 
 -- a sync that is done has begun its log, come through all changes and finished it
@@ -127,9 +127,9 @@ done_parts (given u) (through j) st m o len h = (refl, finish_told (finish_answe
 -- what a sync that has begun passed: every test before the first change
 passed : (f g h : Bool) (a : Answer (Unit {0})) → cond f (cond (g && h) a (refused 2)) (refused 1) ≡ given tt → (f ≡ true) × (g ≡ true) × (h ≡ true) × (a ≡ given tt)
 passed true true true a e = (refl, refl, refl, e)
-passed true true false a e = absurd (given-refused tt 2 (sym e))
-passed true false h a e = absurd (given-refused tt 2 (sym e))
-passed false g h a e = absurd (given-refused tt 1 (sym e))
+passed true true false a e = absurd (given_refused tt 2 (sym e))
+passed true false h a e = absurd (given_refused tt 2 (sym e))
+passed false g h a e = absurd (given_refused tt 1 (sym e))
 
 pub start_passed : (n : ℕ) (m : Mem) (pages : List ℕ) (count : ℕ) → before_changes n m pages count ≡ given tt
     → (tags_fit n (length m.tags) ≡ true) × (length pages ≡ 4096 * count) × (length m.marks ≡ tag_pages n) × (begin_answer m.log ≡ given tt)
@@ -153,31 +153,31 @@ module _ (n : ℕ) (m : Mem) (pages : List ℕ) (cs : List Change) (start : Star
   unfolding sync_says
   parts = done_parts (before_changes n m pages (length cs)) (came n m pages cs start).came end last o len h
 
-  pub done-run : Run m.log start end.writer last.log entries
-  done-run =
+  pub done_run : Run m.log start end.writer last.log entries
+  done_run =
       let ok = (start_passed n m pages (length cs) parts.0).3 in
       all_logged m.log start pages cs sized (start_mem m start) 0 (start_state n m start) []
-      (subst (λ (x : Writer). Run m.log start x (begin_log m.log start) []) (begun-open m.log start ok) (begun Fresh small (ap accepted ok)))
+      (subst (λ (x : Writer). Run m.log start x (begin_log m.log start) []) (begun_open m.log start ok) (begun Fresh small (ap accepted ok)))
 
   pub done-length : len ≡ finished_length start.edition (end_of start entries)
-  done-length = given-one len (finished_length start.edition (end_of start entries)) (sym parts.1 ∙ finish-fits m.log start end.writer last.log entries done-run)
+  done-length = given_one len (finished_length start.edition (end_of start entries)) (sym parts.1 ∙ finish_fits m.log start end.writer last.log entries done_run)
 
-  pub done-log : (sync_mem n m pages cs start).log ≡ finish_log last.log end.writer
+  pub done_log : (sync_mem n m pages cs start).log ≡ finish_log last.log end.writer
   unfolding sync_mem
-  done-log =
+  done_log =
       ap (λ (b : Answer (Unit {0})). (kept_if b m (mem_of last.tags last.marks last.cells (log_after (came n m pages cs start).came end last))).log) parts.0 ∙ parts.2
 
-  pub done-left : ((sync_mem n m pages cs start).tags ≡ last.tags) × ((sync_mem n m pages cs start).marks ≡ last.marks)
+  pub done_left : ((sync_mem n m pages cs start).tags ≡ last.tags) × ((sync_mem n m pages cs start).marks ≡ last.marks)
   unfolding sync_mem
-  done-left = (
+  done_left = (
     ap (λ (b : Answer (Unit {0})). (kept_if b m (mem_of last.tags last.marks last.cells (log_after (came n m pages cs start).came end last))).tags) parts.0,
     ap (λ (b : Answer (Unit {0})). (kept_if b m (mem_of last.tags last.marks last.cells (log_after (came n m pages cs start).came end last))).marks) parts.0,
   )
 
-  pub done-start : start_of (take len (sync_mem n m pages cs start).log) ≡ given start.sync
-  done-start =
-      ap₂ (λ (k : ℕ) (x : List ℕ). start_of (take k x)) done-length done-log ∙ round-trip-start m.log start end.writer last.log entries done-run
+  pub done_start : start_of (take len (sync_mem n m pages cs start).log) ≡ given start.sync
+  done_start =
+      ap₂ (λ (k : ℕ) (x : List ℕ). start_of (take k x)) done-length done_log ∙ round_trip_start m.log start end.writer last.log entries done_run
 
-  pub done-back : (rule : AfterEnd) → read_log rule (take len (sync_mem n m pages cs start).log) ≡ record { entries = entries; at = end_of start entries; stop = given tt }
-  done-back rule =
-      ap₂ (λ (k : ℕ) (x : List ℕ). read_log rule (take k x)) done-length done-log ∙ round_trip m.log start end.writer last.log entries done-run rule
+  pub done_back : (rule : AfterEnd) → read_log rule (take len (sync_mem n m pages cs start).log) ≡ record { entries = entries; at = end_of start entries; stop = given tt }
+  done_back rule =
+      ap₂ (λ (k : ℕ) (x : List ℕ). read_log rule (take k x)) done-length done_log ∙ round_trip m.log start end.writer last.log entries done_run rule

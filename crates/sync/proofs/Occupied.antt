@@ -17,9 +17,9 @@ use Rattle.sync.specs.Change.{Mem, mem_of, does_of, Effect, cleared, updated, al
 use Rattle.sync.specs.Sync.{page_of, Came, through, refused_at, or_rest, or_mem, change_at, change_mem, all_of, mem_all, before_changes, start_mem, start_state, said_done, said_finish, said_by, said_if, kept_if, log_after, came, left, sync_says, sync_mem}
 use Rattle.sync.specs.declared.Change.{Change}
 use Rattle.sync.specs.declared.SyncState.{SyncState}
-use Rattle.sync.proofs.Accepted.{after-cleared, after-allocated, accepted_change}
-use Rattle.sync.proofs.TagKinds.{kind-taken}
-use Rattle.sync.proofs.Plans.{does-clears}
+use Rattle.sync.proofs.Accepted.{after_cleared, after_allocated, accepted_change}
+use Rattle.sync.proofs.TagKinds.{kind_taken_lem}
+use Rattle.sync.proofs.Plans.{does_clears}
 
 -- a bucket that is free is not full
 free_not_full : (k : Kind) → is_kind empty k || is_kind tombstone k ≡ true → is_kind full k ≡ false
@@ -30,23 +30,23 @@ free_not_full other h = refl
 
 module _ (st : SyncState) (m : Mem) (page : List ℕ) (c : Change) where
   -- after a change, accepted or refused
-  pub occupied-kept : (e : Answer Effect) → effect_of st m page c ≡ e → st.occupied ≡ count_of full m.tags st.n → (state_by e st c).occupied ≡ count_of full (tags_if e c.hash m.tags) st.n
-  occupied-kept (refused k) h o = o
-  occupied-kept (given (updated b)) h o = o
-  occupied-kept (given (cleared b)) h o =
+  pub occupied_kept : (e : Answer Effect) → effect_of st m page c ≡ e → st.occupied ≡ count_of full m.tags st.n → (state_by e st c).occupied ≡ count_of full (tags_if e c.hash m.tags) st.n
+  occupied_kept (refused k) h o = o
+  occupied_kept (given (updated b)) h o = o
+  occupied_kept (given (cleared b)) h o =
       let a = accepted_change st m page c (cleared b) h in
       let f = tags_fit_facts st.n (length m.tags) a.0 in
-      let d = (after-cleared st m c (does_of st.n m.tags m.cells c) b a.2).0 in
-      let l = does-clears st.n m.tags m.cells c b d in
-      let k = kind-taken st m page c (cleared b) h in
+      let d = (after_cleared st m c (does_of st.n m.tags m.cells c) b a.2).0 in
+      let l = does_clears st.n m.tags m.cells c b d in
+      let k = kind_taken_lem st m page c (cleared b) h in
       omega (arith, count_set full m.tags b 0x7F st.n l (omega arith), ap one k)
-  occupied-kept (given (allocated b)) h o =
+  occupied_kept (given (allocated b)) h o =
       let a = accepted_change st m page c (allocated b) h in
       let f = tags_fit_facts st.n (length m.tags) a.0 in
-      let g = (after-allocated st m c (does_of st.n m.tags m.cells c) b a.2).2 in
+      let g = (after_allocated st m c (does_of st.n m.tags m.cells c) b a.2).2 in
       let r = allocated_bucket st.limit m.tags st.n c.hash b (ap (λ (t : Bool). cond t (allocating st.limit m.tags st.n c.hash) (refused 1)) a.0 ∙ g) in
       let l : b < st.n = r.1.below in
-      omega (arith, count_set full m.tags b (full_tag c.hash) st.n l (omega arith), ap one (free_not_full (kind_of (get_or m.tags b 0)) (kind-taken st m page c (allocated b) h)), ap (λ (x : Kind). one (is_kind full x)) (full_tag_kind c.hash), count-le full m.tags st.n)
+      omega (arith, count_set full m.tags b (full_tag c.hash) st.n l (omega arith), ap one (free_not_full (kind_of (get_or m.tags b 0)) (kind_taken_lem st m page c (allocated b) h)), ap (λ (x : Kind). one (is_kind full x)) (full_tag_kind c.hash), count-le full m.tags st.n)
 
 -- after the changes, as far as they came
 abbrev Counts : List ℕ → List Change → Type 0
@@ -62,8 +62,8 @@ all_occupied pages (c ∷ cs) m j st o = go (effect_of st m (page_of pages j) c)
         → (or_rest (change_at m pages c j st).came (change_at m pages c j st) (all_of (change_mem m pages c j st) pages cs (j + 1) (change_at m pages c j st).state)).state.occupied
         ≡ count_of full (or_mem (change_at m pages c j st).came (change_mem m pages c j st) (mem_all (change_mem m pages c j st) pages cs (j + 1) (change_at m pages c j st).state)).tags st.n
     go (given e) h rest =
-        rw (h) (rest (mem_by (given e) st m (page_of pages j) c) (j + 1) (state_by (given e) st c) (occupied-kept st m (page_of pages j) c (given e) h o))
-    go (refused k) h rest = rw (h) (occupied-kept st m (page_of pages j) c (refused k) h o)
+        rw (h) (rest (mem_by (given e) st m (page_of pages j) c) (j + 1) (state_by (given e) st c) (occupied_kept st m (page_of pages j) c (given e) h o))
+    go (refused k) h rest = rw (h) (occupied_kept st m (page_of pages j) c (refused k) h o)
 
 -- what a sync that is done says
 finish_done : (a : Answer ℕ) (occupied o len : ℕ) → said_finish a occupied ≡ said_done o len → occupied ≡ o

@@ -13,7 +13,7 @@ use borrow.Author.Tests.{ltb-true}
 use Rattle.answers.specs.Answers.{Answer, given, refused, truth_said}
 use Rattle.answers.specs.declared.Truth.{Truth}
 use Rattle.answers.specs.declared.Truth.TheVariants as truth
-use Rattle.answers.proofs.Laws.{given-one, given-refused}
+use Rattle.answers.proofs.Laws.{given_one, given_refused}
 use Rattle.answers.specs.contracts.Truth as TruthT
 use Rattle.page_diff.specs.Diff.{marked, reserved, ask_answer}
 use Rattle.sync_parts.specs.Parts.{Named, bucket, none, named_by, tag_fits}
@@ -29,8 +29,8 @@ where_place place.Fresh = refl
 where_place (place.Cell i) = refl
 
 -- asking after bit 126: it holds, or it does not
-pub spare-holds : (ws : List ℕ) (t : Truth) → truth_said t ≡ ask_answer ws 126 → t ≡ truth.Holds → marked ws 126 ≡ true
-spare-holds ws t e h = let z : given true ≡ given (marked ws 126) = sym (ap truth_said h) ∙ e in sym (cc)
+pub spare_holds : (ws : List ℕ) (t : Truth) → truth_said t ≡ ask_answer ws 126 → t ≡ truth.Holds → marked ws 126 ≡ true
+spare_holds ws t e h = let z : given true ≡ given (marked ws 126) = sym (ap truth_said h) ∙ e in sym (cc)
 
 pub spare_fails : (ws : List ℕ) (t : Truth) → truth_said t ≡ ask_answer ws 126 → OneOf (1 ∷ 2 ∷ []) (tag_of TruthT.the_type t) → marked ws 126 ≡ false
 spare_fails ws truth.Holds e o = absurd (out 0 refl o)
@@ -45,43 +45,43 @@ module _ (n : ℕ) (tags cells : List ℕ) (c : Change) where
   abbrev ws : List ℕ
   ws = c.diff.words
 
-  pub plan-spare : marked c.diff.words 126 ≡ true → does_of n tags cells c ≡ refused 4
+  pub plan_spare : marked c.diff.words 126 ≡ true → does_of n tags cells c ≡ refused 4
   unfolding does_of
-  plan-spare e = ap (λ (b : Bool). cond b (refused 4) (by_named (marked ws 127) n tags c.hash (named_by (where_of c.place) cells))) e
+  plan_spare e = ap (λ (b : Bool). cond b (refused 4) (by_named (marked ws 127) n tags c.hash (named_by (where_of c.place) cells))) e
 
-  pub plan-by : (clearing : Bool) (a : Answer Named) → marked c.diff.words 126 ≡ false → clearing ≡ marked c.diff.words 127 → a ≡ named_by (where_of c.place) cells → does_of n tags cells c ≡ by_named clearing n tags c.hash a
+  pub plan_by : (clearing : Bool) (a : Answer Named) → marked c.diff.words 126 ≡ false → clearing ≡ marked c.diff.words 127 → a ≡ named_by (where_of c.place) cells → does_of n tags cells c ≡ by_named clearing n tags c.hash a
   unfolding does_of
-  plan-by clearing a e f g =
+  plan_by clearing a e f g =
       ap (λ (b : Bool). cond b (refused 4) (by_named (marked ws 127) n tags c.hash (named_by (where_of c.place) cells))) e
       ∙ sym (ap₂ (λ (b : Bool) (x : Answer Named). by_named b n tags c.hash x) f g)
 
 -- ---- what an accepted plan rests on
 -- a named bucket is inside the table and has the hash's tag; only a clearing change clears
 pub data Told (n : ℕ) (tags : List ℕ) (h : ℕ) (clearing : Bool) : Does → Type 0 where
-  as-clear : {b : ℕ} → b < n → clearing ≡ true → tag_fits h (get_or tags b 0) ≡ true → Told n tags h clearing (clears b)
-  as-update : {b : ℕ} → b < n → clearing ≡ false → tag_fits h (get_or tags b 0) ≡ true → Told n tags h clearing (updates b)
-  as-new : clearing ≡ false → Told n tags h clearing allocates
+  as_clear : {b : ℕ} → b < n → clearing ≡ true → tag_fits h (get_or tags b 0) ≡ true → Told n tags h clearing (clears b)
+  as_update : {b : ℕ} → b < n → clearing ≡ false → tag_fits h (get_or tags b 0) ≡ true → Told n tags h clearing (updates b)
+  as_new : clearing ≡ false → Told n tags h clearing allocates
 
 named_told : (n : ℕ) (tags : List ℕ) (h : ℕ) (cl : Bool) (a : Answer Named) (d : Does) → by_named cl n tags h a ≡ given d → Told n tags h cl d
-named_told n tags h cl (refused k) d e = absurd (given-refused d k (sym e))
-named_told n tags h true (given none) d e = absurd (given-refused d 14 (sym e))
-named_told n tags h false (given none) d e = subst (Told n tags h false) (given-one allocates d e) (as-new refl)
+named_told n tags h cl (refused k) d e = absurd (given_refused d k (sym e))
+named_told n tags h true (given none) d e = absurd (given_refused d 14 (sym e))
+named_told n tags h false (given none) d e = subst (Told n tags h false) (given_one allocates d e) (as_new refl)
 named_told n tags h cl (given (bucket x)) d e = go (ltb x n) refl (tag_fits h (get_or tags x 0)) refl e
   where
     kind : (v : Bool) → cl ≡ v → x < n → tag_fits h (get_or tags x 0) ≡ true → Told n tags h cl (does_with v x)
-    kind true s l q = as-clear l s q
-    kind false s l q = as-update l s q
+    kind true s l q = as_clear l s q
+    kind false s l q = as_update l s q
 
     go : (t : Bool) → ltb x n ≡ t → (u : Bool) → tag_fits h (get_or tags x 0) ≡ u → cond t (cond u (given (does_with cl x)) (refused 14)) (refused 9) ≡ given d → Told n tags h cl d
-    go true p true q r = subst (Told n tags h cl) (given-one (does_with cl x) d r) (kind cl refl (ltb-true x n p) q)
-    go true p false q r = absurd (given-refused d 14 (sym r))
-    go false p u q r = absurd (given-refused d 9 (sym r))
+    go true p true q r = subst (Told n tags h cl) (given_one (does_with cl x) d r) (kind cl refl (ltb-true x n p) q)
+    go true p false q r = absurd (given_refused d 14 (sym r))
+    go false p u q r = absurd (given_refused d 9 (sym r))
 
 module _ (n : ℕ) (tags cells : List ℕ) (c : Change) where
   -- an accepted plan has no bit 126
-  pub past-spare : (d : Does) → does_of n tags cells c ≡ given d → (marked c.diff.words 126 ≡ false) × (by_named (marked c.diff.words 127) n tags c.hash (named_by (where_of c.place) cells) ≡ given d)
+  pub past_spare : (d : Does) → does_of n tags cells c ≡ given d → (marked c.diff.words 126 ≡ false) × (by_named (marked c.diff.words 127) n tags c.hash (named_by (where_of c.place) cells) ≡ given d)
   unfolding does_of
-  past-spare d e = go (marked c.diff.words 126) refl e
+  past_spare d e = go (marked c.diff.words 126) refl e
     where
       go : (x : Bool) → marked c.diff.words 126 ≡ x
           → cond (marked c.diff.words 126) (refused 4) (by_named (marked c.diff.words 127) n tags c.hash (named_by (where_of c.place) cells)) ≡ given d
@@ -91,23 +91,23 @@ module _ (n : ℕ) (tags cells : List ℕ) (c : Change) where
           let y : ◌≡◌ {A = ℕ} 0 1 = cc in absurd (omega arith)
       go false p r = (p, sym (ap (λ (b : Bool). cond b (refused 4) (by_named (marked c.diff.words 127) n tags c.hash (named_by (where_of c.place) cells))) p) ∙ r)
 
-  pub does-told : (d : Does) → does_of n tags cells c ≡ given d → Told n tags c.hash (marked c.diff.words 127) d
-  does-told d e = named_told n tags c.hash (marked c.diff.words 127) (named_by (where_of c.place) cells) d (past-spare d e).1
+  pub does_told : (d : Does) → does_of n tags cells c ≡ given d → Told n tags c.hash (marked c.diff.words 127) d
+  does_told d e = named_told n tags c.hash (marked c.diff.words 127) (named_by (where_of c.place) cells) d (past_spare d e).1
 
-  pub does-clears : (b : ℕ) → does_of n tags cells c ≡ given (clears b) → b < n
-  does-clears b e = go (does-told (clears b) e)
+  pub does_clears : (b : ℕ) → does_of n tags cells c ≡ given (clears b) → b < n
+  does_clears b e = go (does_told (clears b) e)
     where
       go : Told n tags c.hash (marked c.diff.words 127) (clears b) → b < n
-      go (as-clear l s q) = l
+      go (as_clear l s q) = l
 
-  pub does-updates : (b : ℕ) → does_of n tags cells c ≡ given (updates b) → (b < n) × (reserved c.diff.words ≡ false)
-  does-updates b e = go (does-told (updates b) e)
+  pub does_updates : (b : ℕ) → does_of n tags cells c ≡ given (updates b) → (b < n) × (reserved c.diff.words ≡ false)
+  does_updates b e = go (does_told (updates b) e)
     where
       go : Told n tags c.hash (marked c.diff.words 127) (updates b) → (b < n) × (reserved c.diff.words ≡ false)
-      go (as-update l s q) = (l, ap₂ ◌||◌ (past-spare (updates b) e).0 s)
+      go (as_update l s q) = (l, ap₂ ◌||◌ (past_spare (updates b) e).0 s)
 
-  pub does-allocates : does_of n tags cells c ≡ given allocates → reserved c.diff.words ≡ false
-  does-allocates e = go (does-told allocates e)
+  pub does_allocates : does_of n tags cells c ≡ given allocates → reserved c.diff.words ≡ false
+  does_allocates e = go (does_told allocates e)
     where
       go : Told n tags c.hash (marked c.diff.words 127) allocates → reserved c.diff.words ≡ false
-      go (as-new s) = ap₂ ◌||◌ (past-spare allocates e).0 s
+      go (as_new s) = ap₂ ◌||◌ (past_spare allocates e).0 s

@@ -28,13 +28,13 @@ use Rattle.sync.specs.declared.SyncAnswer.{SyncAnswer}
 use Rattle.sync.specs.declared.SyncStart.{SyncStart}
 use Rattle.sync.specs.declared.Synced.{Synced}
 use Rattle.sync.specs.declared.Synced.TheVariants as synced
-use Rattle.sync.proofs.Accepted.{after-cleared, after-updated, after-allocated, accepted_change}
-use Rattle.sync.proofs.Logged.{done-left, done-start, done-back}
+use Rattle.sync.proofs.Accepted.{after_cleared, after_updated, after_allocated, accepted_change}
+use Rattle.sync.proofs.Logged.{done_left, done_start, done_back}
 use Rattle.sync.proofs.Occupied.{done_occupied}
-use Rattle.sync.proofs.Plans.{Told, as-clear, as-update, as-new, does-told}
-use Rattle.sync.proofs.Refused.{OfStart, OfChange, start_number, refused-before, refused-at}
+use Rattle.sync.proofs.Plans.{Told, as_clear, as_update, as_new, does_told}
+use Rattle.sync.proofs.Refused.{OfStart, OfChange, start_number, refused_before, refused_at_lem}
 use Rattle.sync.proofs.Replayed.{done_replays}
-use Rattle.sync.proofs.Untouched.{Misses, all-tags, wrote, all-marks}
+use Rattle.sync.proofs.Untouched.{Misses, all_tags, wrote, all_marks}
 
 -- ---- one hash for each update that the changes give
 module _ (st : SyncState) (m : Mem) (page : List ℕ) (c : Change) where
@@ -42,19 +42,19 @@ module _ (st : SyncState) (m : Mem) (page : List ℕ) (c : Change) where
   clearing = marked c.diff.words 127
 
   -- a clearing change logs a clear, any other an update
-  one-hash : (e : Effect) → effect_of st m page c ≡ given e → one_update (entry_by c page e) ≡ cond clearing 0 1
-  one-hash (cleared b) h = go (does-told st.n m.tags m.cells c (clears b) (after-cleared st m c (does_of st.n m.tags m.cells c) b (accepted_change st m page c (cleared b) h).2).0)
+  one_hash : (e : Effect) → effect_of st m page c ≡ given e → one_update (entry_by c page e) ≡ cond clearing 0 1
+  one_hash (cleared b) h = go (does_told st.n m.tags m.cells c (clears b) (after_cleared st m c (does_of st.n m.tags m.cells c) b (accepted_change st m page c (cleared b) h).2).0)
     where
       go : Told st.n m.tags c.hash clearing (clears b) → one_update (entry_by c page (cleared b)) ≡ cond clearing 0 1
-      go (as-clear l s q) = sym (ap (λ (x : Bool). cond {A = ℕ} x 0 1) s)
-  one-hash (updated b) h = go (does-told st.n m.tags m.cells c (updates b) (after-updated st m c (does_of st.n m.tags m.cells c) b (accepted_change st m page c (updated b) h).2).0)
+      go (as_clear l s q) = sym (ap (λ (x : Bool). cond {A = ℕ} x 0 1) s)
+  one_hash (updated b) h = go (does_told st.n m.tags m.cells c (updates b) (after_updated st m c (does_of st.n m.tags m.cells c) b (accepted_change st m page c (updated b) h).2).0)
     where
       go : Told st.n m.tags c.hash clearing (updates b) → one_update (entry_by c page (updated b)) ≡ cond clearing 0 1
-      go (as-update l s q) = sym (ap (λ (x : Bool). cond {A = ℕ} x 0 1) s)
-  one-hash (allocated b) h = go (does-told st.n m.tags m.cells c allocates (after-allocated st m c (does_of st.n m.tags m.cells c) b (accepted_change st m page c (allocated b) h).2).0)
+      go (as_update l s q) = sym (ap (λ (x : Bool). cond {A = ℕ} x 0 1) s)
+  one_hash (allocated b) h = go (does_told st.n m.tags m.cells c allocates (after_allocated st m c (does_of st.n m.tags m.cells c) b (accepted_change st m page c (allocated b) h).2).0)
     where
       go : Told st.n m.tags c.hash clearing allocates → one_update (entry_by c page (allocated b)) ≡ cond clearing 0 1
-      go (as-new s) = sym (ap (λ (x : Bool). cond {A = ℕ} x 0 1) s)
+      go (as_new s) = sym (ap (λ (x : Bool). cond {A = ℕ} x 0 1) s)
 
 abbrev Hashed : List ℕ → List Change → Type 0
 Hashed pages cs = (m : Mem) (j : ℕ) (st : SyncState) (i : ℕ) → (all_of m pages cs j st).came ≡ through i → length (hashes_of cs) ≡ updates_in (entries_of m pages cs j st)
@@ -76,7 +76,7 @@ all_hashed pages (c ∷ cs) m j st i e = go (effect_of st m (page_of pages j) c)
     go (given x) h rest q =
         rw h
         (one (marked c.diff.words 127)
-        ∙ ap₂ ◌+◌ (sym (one-hash st m (page_of pages j) c x h)) (rest (mem_by (given x) st m (page_of pages j) c) (j + 1) (state_by (given x) st c) i (rw h at q)))
+        ∙ ap₂ ◌+◌ (sym (one_hash st m (page_of pages j) c x h)) (rest (mem_by (given x) st m (page_of pages j) c) (j + 1) (state_by (given x) st c) i (rw h at q)))
 
 -- ---- by its answer: refused, and not at a change
 module _ (s : SyncStart) (m : Mem) (pages : List ℕ) (cs : List Change) (r : SyncAnswer) (after : Mem) (p : SyncPromise s m pages cs r after) where
@@ -91,18 +91,18 @@ module _ (s : SyncStart) (m : Mem) (pages : List ℕ) (cs : List Change) (r : Sy
   said x e = sym p.says ∙ ap synced_said e
 
   -- "A refusal answers its number and leaves all lent memory": 1, 2 or begin's 13, with the writer as it was
-  pub sync-refused-leaves : (why : Refusal) → r.synced ≡ synced.Refused why → OfStart (number_of why) × (after ≡ m) × (r.writer ≡ s.writer)
-  sync-refused-leaves why e =
-      let b = refused-before n m pages cs start (number_of why) (said (synced.Refused why) e) in
+  pub sync_refused_leaves : (why : Refusal) → r.synced ≡ synced.Refused why → OfStart (number_of why) × (after ≡ m) × (r.writer ≡ s.writer)
+  sync_refused_leaves why e =
+      let b = refused_before n m pages cs start (number_of why) (said (synced.Refused why) e) in
       (start_number n m pages (length cs) (number_of why) b.0, p.memory ∙ b.1, p.writer ∙ b.2 s.writer)
 
   -- "a sync refused at change j keeps the effects of changes before j and its marks, answers j, and its writer becomes fresh": its number is one
   -- of a change's, and the memory is that of the first j changes
-  pub sync-refused-at : (j : ℕ) (why : Refusal) → r.synced ≡ synced.RefusedAt j why
+  pub sync_refused_at : (j : ℕ) (why : Refusal) → r.synced ≡ synced.RefusedAt j why
       → (j < length cs) × OfChange (number_of why) × ((came n m pages (take j cs) start).came ≡ through j) × (after ≡ left n m pages (take j cs) start) × (r.writer ≡ Fresh)
-  sync-refused-at j why e =
-      let q = refused-at n m pages cs start j (number_of why) (said (synced.RefusedAt j why) e) in
-      (q.within, q.number, q.came-to, p.memory ∙ q.memory, p.writer ∙ q.fresh s.writer)
+  sync_refused_at j why e =
+      let q = refused_at_lem n m pages cs start j (number_of why) (said (synced.RefusedAt j why) e) in
+      (q.within, q.number, q.came_to, p.memory ∙ q.memory, p.writer ∙ q.fresh s.writer)
 
   -- ---- by its answer: done
   module _ (o len : ℕ) (done : r.synced ≡ synced.Done o len) where
@@ -120,34 +120,34 @@ module _ (s : SyncStart) (m : Mem) (pages : List ℕ) (cs : List Change) (r : Sy
     logged = entries_of (start_mem m start) pages cs 0 (start_state n m start)
 
     -- "answers occupied": the number of full tags that it leaves
-    pub sync-occupied : o ≡ count_of full after.tags n
-    sync-occupied = done_occupied n m pages cs start o len says ∙ ap (λ (x : Mem). count_of full x.tags n) (sym p.memory)
+    pub sync_occupied : o ≡ count_of full after.tags n
+    sync_occupied = done_occupied n m pages cs start o len says ∙ ap (λ (x : Mem). count_of full x.tags n) (sym p.memory)
 
     -- "A finished log reads back as exactly the entries written", by a reader that wants zeros after end and by a tolerant one
-    pub sync-reads-start : start_of (take len after.log) ≡ given start.sync
-    sync-reads-start = ap start_of (sym same_log) ∙ done-start n m pages cs start o len widths.0 widths.1 says
+    pub sync_reads_start : start_of (take len after.log) ≡ given start.sync
+    sync_reads_start = ap start_of (sym same_log) ∙ done_start n m pages cs start o len widths.0 widths.1 says
 
-    pub sync-reads-back : (rule : AfterEnd) → read_log rule (take len after.log) ≡ record { entries = logged; at = end_of start logged; stop = given tt }
-    sync-reads-back rule = ap (read_log rule) (sym same_log) ∙ done-back n m pages cs start o len widths.0 widths.1 says rule
+    pub sync_reads_back : (rule : AfterEnd) → read_log rule (take len after.log) ≡ record { entries = logged; at = end_of start logged; stop = given tt }
+    sync_reads_back rule = ap (read_log rule) (sym same_log) ∙ done_back n m pages cs start o len widths.0 widths.1 says rule
 
     -- each tag outside the buckets of the logged entries is as before; each mark is 1 where a tag of its page was written, else 0
-    pub sync-other-tags : (i : ℕ) → Misses i logged → get_or after.tags i 0 ≡ get_or m.tags i 0
-    sync-other-tags i misses =
+    pub sync_other_tags : (i : ℕ) → Misses i logged → get_or after.tags i 0 ≡ get_or m.tags i 0
+    sync_other_tags i misses =
         ap (λ (x : Mem). get_or x.tags i 0) p.memory
-        ∙ ap (λ (x : List ℕ). get_or x i 0) (done-left n m pages cs start o len widths.0 widths.1 says).0
-        ∙ all-tags i pages cs (start_mem m start) 0 (start_state n m start) misses
+        ∙ ap (λ (x : List ℕ). get_or x i 0) (done_left n m pages cs start o len widths.0 widths.1 says).0
+        ∙ all_tags i pages cs (start_mem m start) 0 (start_state n m start) misses
 
-    pub sync-marks : (q : ℕ) → q < length m.marks → get_or after.marks q 0 ≡ cond (wrote (start_mem m start) pages cs 0 (start_state n m start) q) 1 0
-    sync-marks q l =
+    pub sync_marks : (q : ℕ) → q < length m.marks → get_or after.marks q 0 ≡ cond (wrote (start_mem m start) pages cs 0 (start_state n m start) q) 1 0
+    sync_marks q l =
         let long : length (start_mem m start).marks ≡ length m.marks = length-replicate (length m.marks) 0 in
         ap (λ (x : Mem). get_or x.marks q 0) p.memory
-        ∙ ap (λ (x : List ℕ). get_or x q 0) (done-left n m pages cs start o len widths.0 widths.1 says).1
-        ∙ all-marks q pages cs (start_mem m start) 0 (start_state n m start) (omega (arith, long))
+        ∙ ap (λ (x : List ℕ). get_or x q 0) (done_left n m pages cs start o len widths.0 widths.1 says).1
+        ∙ all_marks q pages cs (start_mem m start) 0 (start_state n m start) (omega (arith, long))
         ∙ ap (cond (wrote (start_mem m start) pages cs 0 (start_state n m start) q) 1) (get_or-replicate (length m.marks) q 0 0 l)
 
-    came-through : (i : ℕ) × ((came n m pages cs start).came ≡ through i)
+    came_through : (i : ℕ) × ((came n m pages cs start).came ≡ through i)
     unfolding sync_says
-    came-through = go (before_changes n m pages (length cs)) (came n m pages cs start).came refl says
+    came_through = go (before_changes n m pages (length cs)) (came n m pages cs start).came refl says
       where
         go : (b : Answer (Unit {0})) (c : Came) → (came n m pages cs start).came ≡ c → said_if b (said_by c (came n m pages cs start).state (left n m pages cs start)) ≡ said_done o len → (i : ℕ) × ((came n m pages cs start).came ≡ through i)
         go (refused k) c q e = let z : ◌≡◌ {A = ℕ} 0 1 = cc in absurd (omega arith)
@@ -155,12 +155,12 @@ module _ (s : SyncStart) (m : Mem) (pages : List ℕ) (cs : List Change) (r : Sy
         go (given u) (through i) q e = (i, q)
 
     -- "with the sync's own number .. and hashes for its updates": there are as many as replay wants
-    pub sync-hashes : length (hashes_of cs) ≡ updates_in logged
-    sync-hashes = all_hashed pages cs (start_mem m start) 0 (start_state n m start) came-through.0 came-through.1
+    pub sync_hashes : length (hashes_of cs) ≡ updates_in logged
+    sync_hashes = all_hashed pages cs (start_mem m start) 0 (start_state n m start) came_through.0 came_through.1
 
     -- replay accepts the log on every image of the table's size, under the sync's own number (and, in edition two, seed) and with the hashes of its
     -- updates
-    pub sync-replays : (rule : AfterEnd) (want : Expected) → Own start want → (table : List ℕ) → image_fits n (length table) ≡ true → replay_answer rule n table (take len after.log) want (hashes_of cs) ≡ given applied
-    sync-replays rule want own table fits =
+    pub sync_replays : (rule : AfterEnd) (want : Expected) → Own start want → (table : List ℕ) → image_fits n (length table) ≡ true → replay_answer rule n table (take len after.log) want (hashes_of cs) ≡ given applied
+    sync_replays rule want own table fits =
         ap (λ (l : List ℕ). replay_answer rule n table l want (hashes_of cs)) (sym same_log)
-        ∙ done_replays rule n m pages cs start o len widths.0 says widths.1 want own table (hashes_of cs) fits sync-hashes
+        ∙ done_replays rule n m pages cs start o len widths.0 says widths.1 want own table (hashes_of cs) fits sync_hashes

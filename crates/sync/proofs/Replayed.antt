@@ -9,10 +9,10 @@ use borrow.Author.Tests.{lt-ltb}
 use Rattle.answers.specs.Answers.{Answer, given, refused}
 use Rattle.ht_file.specs.Places.{image_fits}
 use Rattle.probe.specs.Path.{allocating}
-use Rattle.probe.proofs.Allocating.{answer-below}
+use Rattle.probe.proofs.Allocating.{answer_below}
 use Rattle.recover.specs.Replay.{applied, all_inside, updates_in, replay_answer, Own}
 use Rattle.recover.specs.declared.Expected.{Expected}
-use Rattle.recover.proofs.Acceptance.{finished-accepted}
+use Rattle.recover.proofs.Acceptance.{finished_accepted}
 use Rattle.wal.specs.Run.{WideStart}
 use Rattle.wal.specs.declared.AfterEnd.{AfterEnd}
 use Rattle.wal.specs.declared.Start.{Start}
@@ -20,21 +20,21 @@ use Rattle.sync.specs.Change.{AllWide, Mem, does_of, Effect, cleared, updated, a
 use Rattle.sync.specs.Sync.{page_of, change_at, change_mem, entries_by, entries_of, start_mem, start_state, said_done, came, left, sync_says, sync_mem}
 use Rattle.sync.specs.declared.Change.{Change}
 use Rattle.sync.specs.declared.SyncState.{SyncState}
-use Rattle.sync.proofs.Accepted.{after-cleared, after-updated, after-allocated, accepted_change}
-use Rattle.sync.proofs.Logged.{done-run, done-length, done-log}
-use Rattle.sync.proofs.Plans.{does-clears, does-updates}
+use Rattle.sync.proofs.Accepted.{after_cleared, after_updated, after_allocated, accepted_change}
+use Rattle.sync.proofs.Logged.{done_run, done-length, done_log}
+use Rattle.sync.proofs.Plans.{does_clears, does_updates}
 use Rattle.sync.proofs.Untouched.{entry_bucket_lem}
 
 -- an accepted change is of a bucket inside the table
 bucket_inside : (st : SyncState) (m : Mem) (page : List ℕ) (c : Change) (e : Effect) → effect_of st m page c ≡ given e → bucket_of e < st.n
 bucket_inside st m page c (cleared b) h =
-    does-clears st.n m.tags m.cells c b (after-cleared st m c (does_of st.n m.tags m.cells c) b (accepted_change st m page c (cleared b) h).2).0
+    does_clears st.n m.tags m.cells c b (after_cleared st m c (does_of st.n m.tags m.cells c) b (accepted_change st m page c (cleared b) h).2).0
 bucket_inside st m page c (updated b) h =
-    (does-updates st.n m.tags m.cells c b (after-updated st m c (does_of st.n m.tags m.cells c) b (accepted_change st m page c (updated b) h).2).0).0
+    (does_updates st.n m.tags m.cells c b (after_updated st m c (does_of st.n m.tags m.cells c) b (accepted_change st m page c (updated b) h).2).0).0
 bucket_inside st m page c (allocated b) h =
     let a = accepted_change st m page c (allocated b) h in
-    let d = after-allocated st m c (does_of st.n m.tags m.cells c) b a.2 in
-    (answer-below st.limit m.tags st.n c.hash b (ap (λ (t : Bool). cond t (allocating st.limit m.tags st.n c.hash) (refused 1)) a.0 ∙ d.2)).0
+    let d = after_allocated st m c (does_of st.n m.tags m.cells c) b a.2 in
+    (answer_below st.limit m.tags st.n c.hash b (ap (λ (t : Bool). cond t (allocating st.limit m.tags st.n c.hash) (refused 1)) a.0 ∙ d.2)).0
 
 -- and so are all entries
 abbrev Inside : List ℕ → List Change → Type 0
@@ -56,6 +56,6 @@ pub done_replays : (rule : AfterEnd) (n : ℕ) (m : Mem) (pages : List ℕ) (cs 
     → (want : Expected) → Own start want → (table hashes : List ℕ) → image_fits n (length table) ≡ true → length hashes ≡ updates_in (entries_of (start_mem m start) pages cs 0 (start_state n m start))
     → replay_answer rule n table (take len (sync_mem n m pages cs start).log) want hashes ≡ given applied
 done_replays rule n m pages cs start o len sized h small want own table hashes fits e =
-    ap₂ (λ (k : ℕ) (x : List ℕ). replay_answer rule n table (take k x) want hashes) (done-length n m pages cs start o len sized small h) (done-log n m pages cs start o len sized small h)
-    ∙ finished-accepted rule m.log start (came n m pages cs start).state.writer (left n m pages cs start).log (entries_of (start_mem m start) pages cs 0 (start_state n m start)) (done-run n m pages cs start o len sized small h) want own n table hashes
+    ap₂ (λ (k : ℕ) (x : List ℕ). replay_answer rule n table (take k x) want hashes) (done-length n m pages cs start o len sized small h) (done_log n m pages cs start o len sized small h)
+    ∙ finished_accepted rule m.log start (came n m pages cs start).state.writer (left n m pages cs start).log (entries_of (start_mem m start) pages cs 0 (start_state n m start)) (done_run n m pages cs start o len sized small h) want own n table hashes
     (all_inside_lem pages cs (start_mem m start) 0 (start_state n m start)) fits e

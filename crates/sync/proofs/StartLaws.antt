@@ -12,7 +12,7 @@ use borrow.Author.Tests.{lt-ltb, le-ltb, eq-eqb, ne_eqb}
 use Rattle.answers.specs.Answers.{Answer, given, refused}
 use Rattle.answers.specs.Refusals.{number_of}
 use Rattle.answers.specs.declared.Refusal.{Refusal}
-use Rattle.answers.proofs.Laws.{given-refused, refused-one}
+use Rattle.answers.proofs.Laws.{given_refused, refused_one}
 use Rattle.ht_file.specs.Places.{tags_fit, tag_pages, if_table}
 use Rattle.ht_file.proofs.Laws.{table_unfit}
 use Rattle.wal.specs.Log.{start_record, start_size}
@@ -34,11 +34,11 @@ use Rattle.sync.specs.contracts.Run as RunT
 
 -- change j's page, where the pages reach that far and where they do not
 module _ (pages : List ℕ) (j : ℕ) where
-  pub page-there : j < length pages / 4096 → page_of pages j ≡ take 4096 (drop (4096 * j) pages)
-  page-there h = ap (λ (t : Bool). cond t (take 4096 (drop (4096 * j) pages)) []) (lt-ltb j (length pages / 4096) h)
+  pub page_there : j < length pages / 4096 → page_of pages j ≡ take 4096 (drop (4096 * j) pages)
+  page_there h = ap (λ (t : Bool). cond t (take 4096 (drop (4096 * j) pages)) []) (lt-ltb j (length pages / 4096) h)
 
-  pub page-none : length pages / 4096 ≤ j → page_of pages j ≡ []
-  page-none h = ap (λ (t : Bool). cond t (take 4096 (drop (4096 * j) pages)) []) (le-ltb j (length pages / 4096) h)
+  pub page_none : length pages / 4096 ≤ j → page_of pages j ≡ []
+  page_none h = ap (λ (t : Bool). cond t (take 4096 (drop (4096 * j) pages)) []) (le-ltb j (length pages / 4096) h)
 
 -- ---- change j told on from its step
 -- a sync that was refused stays as it is
@@ -49,33 +49,33 @@ change_none m pages c j (run.Refused r w) o = (refl, refl)
 change_none m pages c j (run.RefusedAt i r) o = (refl, refl)
 
 module _ (st : SyncState) (m : Mem) (pages page : List ℕ) (c : Change) (j : ℕ) (e : page ≡ page_of pages j) where
-  refused-going : (a : Answer Effect) (k : ℕ) (s : SyncState) → refused k ≡ page_number st a → stopped j k ≡ going_by (came_by a j) s
-  refused-going (given x) k s h = absurd (given-refused _ k (sym h))
-  refused-going (refused i) k s h = ap (stopped j) (refused-one k i h)
+  refused_going : (a : Answer Effect) (k : ℕ) (s : SyncState) → refused k ≡ page_number st a → stopped j k ≡ going_by (came_by a j) s
+  refused_going (given x) k s h = absurd (given_refused _ k (sym h))
+  refused_going (refused i) k s h = ap (stopped j) (refused_one k i h)
 
-  given-going : (a : Answer Effect) (t : Taken) (s : SyncState) → OneOf (0 ∷ []) (tag_of TakenT.the_type t) → taken_said t ≡ page_number st a → on s ≡ going_by (came_by a j) s
-  given-going a (taken.Refused r) s o h = absurd (omega arith)
-  given-going (given x) (taken.At b p) s o h = refl
-  given-going (refused k) (taken.At b p) s o h = absurd (given-refused _ k h)
+  given_going : (a : Answer Effect) (t : Taken) (s : SyncState) → OneOf (0 ∷ []) (tag_of TakenT.the_type t) → taken_said t ≡ page_number st a → on s ≡ going_by (came_by a j) s
+  given_going a (taken.Refused r) s o h = absurd (omega arith)
+  given_going (given x) (taken.At b p) s o h = refl
+  given_going (refused k) (taken.At b p) s o h = absurd (given_refused _ k h)
 
   -- the change, on its own page
   abbrev there : List ℕ → Going
   there p = going_by (came_by (effect_of st m p c) j) (state_by (effect_of st m p c) st c)
 
   module _ (t : Taken) (said : taken_said t ≡ page_number st (effect_of st m page c)) where
-    pub change-refused : (r : Refusal) → t ≡ taken.Refused r → stopped j (number_of r) ≡ change_going m pages c j (on st)
+    pub change_refused : (r : Refusal) → t ≡ taken.Refused r → stopped j (number_of r) ≡ change_going m pages c j (on st)
     unfolding change_at
-    change-refused r h =
-        refused-going (effect_of st m page c) (number_of r) (state_by (effect_of st m page c) st c) (sym (ap taken_said h) ∙ said) ∙ ap there e
+    change_refused r h =
+        refused_going (effect_of st m page c) (number_of r) (state_by (effect_of st m page c) st c) (sym (ap taken_said h) ∙ said) ∙ ap there e
 
-    pub change-given : (s : SyncState) → s ≡ state_by (effect_of st m page c) st c → OneOf (0 ∷ []) (tag_of TakenT.the_type t) → on s ≡ change_going m pages c j (on st)
+    pub change_given : (s : SyncState) → s ≡ state_by (effect_of st m page c) st c → OneOf (0 ∷ []) (tag_of TakenT.the_type t) → on s ≡ change_going m pages c j (on st)
     unfolding change_at
-    change-given s state o =
-        given-going (effect_of st m page c) t s o said ∙ ap (going_by (came_by (effect_of st m page c) j)) state ∙ ap there e
+    change_given s state o =
+        given_going (effect_of st m page c) t s o said ∙ ap (going_by (came_by (effect_of st m page c) j)) state ∙ ap there e
 
-  pub change-mem : (x : Mem) → x ≡ mem_by (effect_of st m page c) st m page c → x ≡ change_mem m pages c j st
+  pub change_mem_lem : (x : Mem) → x ≡ mem_by (effect_of st m page c) st m page c → x ≡ change_mem m pages c j st
   unfolding change_mem
-  change-mem x h = h ∙ ap (λ (p : List ℕ). mem_by (effect_of st m p c) st m p c) e
+  change_mem_lem x h = h ∙ ap (λ (p : List ℕ). mem_by (effect_of st m p c) st m p c) e
 
 -- ---- the start, test by test
 module _ (n : ℕ) (t k l pages : List ℕ) (count : ℕ) where
@@ -85,28 +85,28 @@ module _ (n : ℕ) (t k l pages : List ℕ) (count : ℕ) where
   abbrev before : Answer (Unit {0})
   before = before_changes n m pages count
 
-  pub start-unfit : (j : ℕ) → if_table {A = Unit {0}} (tags_fit n (length t)) (given tt) ≡ refused j → before ≡ refused j
+  pub start_unfit : (j : ℕ) → if_table {A = Unit {0}} (tags_fit n (length t)) (given tt) ≡ refused j → before ≡ refused j
   unfolding before_changes
-  start-unfit j e = sym (table_unfit (tags_fit n (length t)) j _ e)
+  start_unfit j e = sym (table_unfit (tags_fit n (length t)) j _ e)
 
-  pub start-pages : tags_fit n (length t) ≡ true → (length pages ≡ 4096 * count → ⊥) → before ≡ refused 2
+  pub start_pages : tags_fit n (length t) ≡ true → (length pages ≡ 4096 * count → ⊥) → before ≡ refused 2
   unfolding before_changes
-  start-pages h p = simp (h, ne_eqb (length pages) (4096 * count) p)
+  start_pages h p = simp (h, ne_eqb (length pages) (4096 * count) p)
 
-  pub start-marks : tags_fit n (length t) ≡ true → length pages ≡ 4096 * count → (length k ≡ tag_pages n → ⊥) → before ≡ refused 2
+  pub start_marks : tags_fit n (length t) ≡ true → length pages ≡ 4096 * count → (length k ≡ tag_pages n → ⊥) → before ≡ refused 2
   unfolding before_changes
-  start-marks h p q = simp (h, eq-eqb (length pages) (4096 * count) p, ne_eqb (length k) (tag_pages n) q)
+  start_marks h p q = simp (h, eq-eqb (length pages) (4096 * count) p, ne_eqb (length k) (tag_pages n) q)
 
-  pub start-begin : tags_fit n (length t) ≡ true → length pages ≡ 4096 * count → length k ≡ tag_pages n → before ≡ begin_answer l
+  pub start_begin : tags_fit n (length t) ≡ true → length pages ≡ 4096 * count → length k ≡ tag_pages n → before ≡ begin_answer l
   unfolding before_changes
-  start-begin h p q = simp (h, eq-eqb (length pages) (4096 * count) p, eq-eqb (length k) (tag_pages n) q)
+  start_begin h p q = simp (h, eq-eqb (length pages) (4096 * count) p, eq-eqb (length k) (tag_pages n) q)
 
   module _ (start : Start) (w : Writer) (wide : WideStart start) where
     abbrev pub Begins : Going → Mem → Type 0
     Begins g x = (g ≡ start_going before (start_state n m start) w) × ((x ≡ kept_if before m (start_mem m start)) × (WideStart start))
 
-    pub begin-refused : (j : ℕ) → before ≡ refused j → Begins (unbegun j w) m
-    begin-refused j h = (
+    pub begin_refused : (j : ℕ) → before ≡ refused j → Begins (unbegun j w) m
+    begin_refused j h = (
       sym (ap (λ (a : Answer (Unit {0})). start_going a (start_state n m start) w) h),
       (sym (ap (λ (a : Answer (Unit {0})). kept_if a m (start_mem m start)) h), wide),
     )
@@ -119,8 +119,8 @@ module _ (n : ℕ) (t k l pages : List ℕ) (count : ℕ) where
 
 -- begin's answer: a refused one leaves the log, an accepted one opens the writer
 module _ (l : List ℕ) (start : Start) where
-  pub begun-left : (j : ℕ) → begin_answer l ≡ refused j → begin_log l start ≡ l
-  begun-left j h = ap (λ (a : Answer (Unit {0})). log_by a l 0 (start_record start)) h
+  pub begun_left : (j : ℕ) → begin_answer l ≡ refused j → begin_log l start ≡ l
+  begun_left j h = ap (λ (a : Answer (Unit {0})). log_by a l 0 (start_record start)) h
 
-  pub begun-open : begin_answer l ≡ given tt → begin_writer l Fresh start.edition ≡ open_at start.edition (start_size start.edition)
-  begun-open h = ap (λ (a : Answer (Unit {0})). writer_by a Fresh (open_at start.edition (start_size start.edition))) h
+  pub begun_open : begin_answer l ≡ given tt → begin_writer l Fresh start.edition ≡ open_at start.edition (start_size start.edition)
+  begun_open h = ap (λ (a : Answer (Unit {0})). writer_by a Fresh (open_at start.edition (start_size start.edition))) h

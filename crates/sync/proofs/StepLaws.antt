@@ -34,28 +34,28 @@ abbrev pub Opened : Writer → Type 0
 Opened w = OneOf (1 ∷ []) (tag_of WriterT.the_type w)
 
 module _ {A : Type 0} (a : Answer A) where
-  open-goes : (w : Writer) → Opened w → if_open w a ≡ a
-  open-goes Fresh o = absurd (omega arith)
-  open-goes (Open p ed) o = refl
-  open-goes (Finished n) o = absurd (omega arith)
+  open_goes : (w : Writer) → Opened w → if_open w a ≡ a
+  open_goes Fresh o = absurd (omega arith)
+  open_goes (Open p ed) o = refl
+  open_goes (Finished n) o = absurd (omega arith)
 
-  closed-stops : (w : Writer) → NotOpen w → if_open w a ≡ refused 12
-  closed-stops Fresh o = refl
-  closed-stops (Open p ed) o = absurd (⊎_elim (λ (e : 1 ≡ 0). omega arith) (λ (e : 1 ≡ 2). omega arith) o)
-  closed-stops (Finished n) o = refl
+  closed_stops : (w : Writer) → NotOpen w → if_open w a ≡ refused 12
+  closed_stops Fresh o = refl
+  closed_stops (Open p ed) o = absurd (⊎_elim (λ (e : 1 ≡ 0). omega arith) (λ (e : 1 ≡ 2). omega arith) o)
+  closed_stops (Finished n) o = refl
 
 -- the two records that a change writes are taken where there is room
 module _ (w : Writer) (l : List ℕ) where
-  pub clear-taken : Opened w → room_in (length l) w clear_body ≡ true → clear_answer l w ≡ given tt
-  clear-taken o r = clear_tests l w ∙ go w o r
+  pub clear_taken : Opened w → room_in (length l) w clear_body ≡ true → clear_answer l w ≡ given tt
+  clear_taken o r = clear_tests l w ∙ go w o r
     where
       go : (v : Writer) → Opened v → room_in (length l) v clear_body ≡ true → tested l v true false clear_size (given (tt {0})) ≡ given (tt {0})
       go Fresh o r = absurd (omega arith)
       go (Open p ed) o r = taken l (Open p ed) true false clear_size (given tt) ed p refl refl refl r
       go (Finished n) o r = absurd (omega arith)
 
-  pub page-taken : (ws page : List ℕ) → Opened w → length page ≡ 4096 → reserved ws ≡ false → room_in (length l) w (update_body (count_of ws)) ≡ true → page_update_answer l w ws page ≡ given tt
-  page-taken ws page o k f r = page_tests l w ws page ∙ go w o r
+  pub page_taken : (ws page : List ℕ) → Opened w → length page ≡ 4096 → reserved ws ≡ false → room_in (length l) w (update_body (count_of ws)) ≡ true → page_update_answer l w ws page ≡ given tt
+  page_taken ws page o k f r = page_tests l w ws page ∙ go w o r
     where
       go : (v : Writer) → Opened v → room_in (length l) v (update_body (count_of ws)) ≡ true → tested l v (eqb (length page) 4096) (reserved ws) (λ ed. update_size ed (count_of ws)) (given (tt {0})) ≡ given (tt {0})
       go Fresh o r = absurd (omega arith)
@@ -64,18 +64,18 @@ module _ (w : Writer) (l : List ℕ) where
 
   -- so this is the state, and this the log
   module _ (h : clear_answer l w ≡ given tt) where
-    pub clear-state : clear_writer l w ≡ open_at (edition_of w) (position w + clear_size (edition_of w))
-    clear-state = ap (λ (a : Answer (Unit {0})). record_writer a w (clear_size (edition_of w))) h
+    pub clear_state : clear_writer l w ≡ open_at (edition_of w) (position w + clear_size (edition_of w))
+    clear_state = ap (λ (a : Answer (Unit {0})). record_writer a w (clear_size (edition_of w))) h
 
-    pub clear-bytes : (b : ℕ) → clear_log l w b ≡ put l (position w) (record_of (edition_of w) (clear b))
-    clear-bytes b = ap (λ (a : Answer (Unit {0})). record_log a l w (record_of (edition_of w) (clear b))) h
+    pub clear_bytes_lem : (b : ℕ) → clear_log l w b ≡ put l (position w) (record_of (edition_of w) (clear b))
+    clear_bytes_lem b = ap (λ (a : Answer (Unit {0})). record_log a l w (record_of (edition_of w) (clear b))) h
 
   module _ (ws page : List ℕ) (h : page_update_answer l w ws page ≡ given tt) where
-    pub page-state : page_update_writer l w ws page ≡ open_at (edition_of w) (position w + update_size (edition_of w) (count_of ws))
-    page-state = ap (λ (a : Answer (Unit {0})). record_writer a w (update_size (edition_of w) (count_of ws))) h
+    pub page_state : page_update_writer l w ws page ≡ open_at (edition_of w) (position w + update_size (edition_of w) (count_of ws))
+    page_state = ap (λ (a : Answer (Unit {0})). record_writer a w (update_size (edition_of w) (count_of ws))) h
 
-    pub page-bytes : (id : List ℕ) (b : ℕ) → page_update_log l w id ws page b ≡ put l (position w) (record_of (edition_of w) (page_update id ws page b))
-    page-bytes id b = ap (λ (a : Answer (Unit {0})). record_log a l w (record_of (edition_of w) (page_update id ws page b))) h
+    pub page_bytes : (id : List ℕ) (b : ℕ) → page_update_log l w id ws page b ≡ put l (position w) (record_of (edition_of w) (page_update id ws page b))
+    page_bytes id b = ap (λ (a : Answer (Unit {0})). record_log a l w (record_of (edition_of w) (page_update id ws page b))) h
 
 module _ (st : SyncState) (t ks cs l page : List ℕ) (c : Change) where
   abbrev effect : Answer Effect
@@ -85,24 +85,24 @@ module _ (st : SyncState) (t ks cs l page : List ℕ) (c : Change) where
   ahead = after_does st (mem_of t ks cs l) c (does_of st.n t cs c)
 
   -- ---- the definition, test by test
-  pub step-unfit : (j : ℕ) → if_table {A = Unit {0}} (tags_fit st.n (length t)) (given tt) ≡ refused j → effect ≡ refused j
+  pub step_unfit : (j : ℕ) → if_table {A = Unit {0}} (tags_fit st.n (length t)) (given tt) ≡ refused j → effect ≡ refused j
   unfolding effect_of
-  step-unfit j e = sym (table_unfit (tags_fit st.n (length t)) j _ e)
+  step_unfit j e = sym (table_unfit (tags_fit st.n (length t)) j _ e)
 
-  pub step-page : tags_fit st.n (length t) ≡ true → (length page ≡ 4096 → ⊥) → effect ≡ refused 2
+  pub step_page : tags_fit st.n (length t) ≡ true → (length page ≡ 4096 → ⊥) → effect ≡ refused 2
   unfolding effect_of
-  step-page h p = simp (h, ne_eqb (length page) 4096 p)
+  step_page h p = simp (h, ne_eqb (length page) 4096 p)
 
-  pub step-marks : tags_fit st.n (length t) ≡ true → length page ≡ 4096 → (length ks ≡ tag_pages st.n → ⊥) → effect ≡ refused 2
+  pub step_marks : tags_fit st.n (length t) ≡ true → length page ≡ 4096 → (length ks ≡ tag_pages st.n → ⊥) → effect ≡ refused 2
   unfolding effect_of
-  step-marks h p k = simp (h, eq-eqb (length page) 4096 p, ne_eqb (length ks) (tag_pages st.n) k)
+  step_marks h p k = simp (h, eq-eqb (length page) 4096 p, ne_eqb (length ks) (tag_pages st.n) k)
 
-  by-writer : tags_fit st.n (length t) ≡ true → length page ≡ 4096 → length ks ≡ tag_pages st.n → effect ≡ if_open st.writer ahead
+  by_writer : tags_fit st.n (length t) ≡ true → length page ≡ 4096 → length ks ≡ tag_pages st.n → effect ≡ if_open st.writer ahead
   unfolding effect_of
-  by-writer h p k = simp (h, eq-eqb (length page) 4096 p, eq-eqb (length ks) (tag_pages st.n) k)
+  by_writer h p k = simp (h, eq-eqb (length page) 4096 p, eq-eqb (length ks) (tag_pages st.n) k)
 
-  pub step-closed : tags_fit st.n (length t) ≡ true → length page ≡ 4096 → length ks ≡ tag_pages st.n → NotOpen st.writer → effect ≡ refused 12
-  step-closed h p k o = by-writer h p k ∙ closed-stops ahead st.writer o
+  pub step_closed : tags_fit st.n (length t) ≡ true → length page ≡ 4096 → length ks ≡ tag_pages st.n → NotOpen st.writer → effect ≡ refused 12
+  step_closed h p k o = by_writer h p k ∙ closed_stops ahead st.writer o
 
   -- looking ahead does not see the marks
   same_ahead : (a : Answer Does) → after_does st (mem_of t [] cs l) c a ≡ after_does st (mem_of t ks cs l) c a
@@ -111,15 +111,15 @@ module _ (st : SyncState) (t ks cs l page : List ℕ) (c : Change) where
   same_ahead (given (updates b)) = refl
   same_ahead (given allocates) = refl
 
-  pub step-ahead : tags_fit st.n (length t) ≡ true → length page ≡ 4096 → length ks ≡ tag_pages st.n → Opened st.writer → (o : Outlook) → outlook_said o ≡ after_does st (mem_of t [] cs l) c (does_of st.n t cs c) → effect ≡ outlook_said o
-  step-ahead h p k w o s = by-writer h p k ∙ open-goes ahead st.writer w ∙ sym (s ∙ same_ahead (does_of st.n t cs c))
+  pub step_ahead : tags_fit st.n (length t) ≡ true → length page ≡ 4096 → length ks ≡ tag_pages st.n → Opened st.writer → (o : Outlook) → outlook_said o ≡ after_does st (mem_of t [] cs l) c (does_of st.n t cs c) → effect ≡ outlook_said o
+  step_ahead h p k w o s = by_writer h p k ∙ open_goes ahead st.writer w ∙ sym (s ∙ same_ahead (does_of st.n t cs c))
 
   -- ---- what is left
   abbrev pub Left : StepAnswer → Mem → Type 0
   Left r m = StepPromise st (mem_of t ks cs l) page c r m
 
-  pub refused-left : (k : ℕ) (r : StepAnswer) → effect ≡ refused k → taken_said r.taken ≡ refused k → r.state ≡ st → Wide c → Left r (mem_of t ks cs l)
-  refused-left k r e a b w =
+  pub refused_left : (k : ℕ) (r : StepAnswer) → effect ≡ refused k → taken_said r.taken ≡ refused k → r.state ≡ st → Wide c → Left r (mem_of t ks cs l)
+  refused_left k r e a b w =
       record {
         taken = a ∙ sym (ap (page_number st) e);
         state = b ∙ sym (ap (λ (x : Answer Effect). state_by x st c) e);
@@ -127,10 +127,10 @@ module _ (st : SyncState) (t ks cs l page : List ℕ) (c : Change) where
         wide = w;
       }
 
-  pub given-left : (e : Effect) (r : StepAnswer) (t' ks' cs' l' : List ℕ) → effect ≡ given e → taken_said r.taken ≡ given (bucket_of e, bucket_page st.n (bucket_of e))
+  pub given_left : (e : Effect) (r : StepAnswer) (t' ks' cs' l' : List ℕ) → effect ≡ given e → taken_said r.taken ≡ given (bucket_of e, bucket_page st.n (bucket_of e))
       → r.state ≡ state_of st.n st.limit (open_at (edition_of st.writer) (position st.writer + size_by (edition_of st.writer) c e)) (occupied_by e st.occupied) → t' ≡ tags_by e c.hash t → ks' ≡ marks_by e ks → cs' ≡ cells_by e (where_of c.place) cs
       → l' ≡ put l (position st.writer) (record_of (edition_of st.writer) (entry_by c page e)) → Wide c → Left r (mem_of t' ks' cs' l')
-  given-left e r t' ks' cs' l' h a b et ek ec el w =
+  given_left e r t' ks' cs' l' h a b et ek ec el w =
       record {
         taken = a ∙ sym (ap (page_number st) h);
         state = b ∙ sym (ap (λ (x : Answer Effect). state_by x st c) h);

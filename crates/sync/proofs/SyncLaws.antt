@@ -65,13 +65,13 @@ module _ (s : SyncStart) (t k c l pages : List ℕ) (cs : List Change) where
     ),
   )
 
-  by-start : (a : Answer (Unit {0})) → before_changes n lent pages (length cs) ≡ a → (x : Mem) → x ≡ with_cells c (kept_if a lent (start_mem lent start))
+  by_start : (a : Answer (Unit {0})) → before_changes n lent pages (length cs) ≡ a → (x : Mem) → x ≡ with_cells c (kept_if a lent (start_mem lent start))
       → (g : Going) (z : Mem) → goes_on x pages cs 0 (start_going a (start_state n lent start) s.writer) ≡ (g, z) → Whole g z
-  by-start (refused j) is x e g z walked =
+  by_start (refused j) is x e g z walked =
       let same : ◌≡◌ {A = Going × Mem} (unbegun j s.writer, m) (g, z) =
       sym (goes_unbegun m pages cs 0 j s.writer) ∙ ap (λ (y : Mem). goes_on y pages cs 0 (unbegun j s.writer)) (sym e) ∙ walked in
       subst (λ (p : Going × Mem). Whole p.0 p.1) same (by_tests (refused j) is)
-  by-start (given u) is x e g z walked =
+  by_start (given u) is x e g z walked =
       let same : ◌≡◌ {A = Going × Mem} (g', z') (g, z) =
       sym (goes_on_lem pages cs (start_mem m start) 0 (start_state n m start)) ∙ ap (λ (y : Mem). goes_on y pages cs 0 (on (start_state n m start))) (sym e) ∙ walked in
       subst (λ (p : Going × Mem). Whole p.0 p.1) same (by_tests (given u) is)
@@ -80,7 +80,7 @@ module _ (s : SyncStart) (t k c l pages : List ℕ) (cs : List Change) where
       → goes_on (mem_of t k' c l') pages cs 0 (run_said r₀) ≡ (run_said r, mem_of z0 z1 z2 z3) → AllWide cs
       → (a : SyncAnswer) (after : List ℕ) → EndPromise r z3 a after → SyncPromise s m pages cs a (mem_of z0 z1 z2 after)
   whole k' l' r₀ r z0 z1 z2 z3 begun walked wide a after ended =
-      let w = by-start (before_changes n lent pages (length cs)) refl (mem_of t k' c l') (ap (with_cells c) begun.1.0) (run_said r) (mem_of z0 z1 z2 z3)
+      let w = by_start (before_changes n lent pages (length cs)) refl (mem_of t k' c l') (ap (with_cells c) begun.1.0) (run_said r) (mem_of z0 z1 z2 z3)
       (ap (goes_on (mem_of t k' c l') pages cs 0) (sym begun.0) ∙ walked) in
       record {
         says = ended.0 ∙ w.0;

@@ -10,7 +10,7 @@ use denote.Laws.{Is}
 use denote.Shadow.{shadow}
 use borrow.Author.Rules.{rules}
 use Rattle.wal.specs.Run.{WideStart}
-use Rattle.sync.specs.Change.{Wide, AllWide, none-wide, more-wide}
+use Rattle.sync.specs.Change.{Wide, AllWide, none_wide, more_wide}
 use Rattle.sync.specs.declared.Change.{Change}
 use Rattle.sync.specs.declared.SyncStart.{SyncStart}
 use Rattle.sync.specs.contracts.Change as T
@@ -27,17 +27,17 @@ pub typed_wide : (c : Change) (vs : List Val) → Is T.the_row c vs → Wide c
 typed_wide c vs is =
     let words = is.1.1.1.1.0.1.1.0 in
     record {
-      id-long = search rules;
-      two-words = search rules;
+      id_long = search rules;
+      two_words = search rules;
       low_word = elements_fit c.diff.words words.0 words.1.1 0;
       high_word = elements_fit c.diff.words words.0 words.1.1 1;
     }
 
 -- the widths of what a sync's log starts with
 pub typed_start : (s : SyncStart) (vs : List Val) → Is S.the_row s vs → WideStart s.log_start
-typed_start s vs is = record { number = search rules; seed-long = search rules }
+typed_start s vs is = record { number = search rules; seed_long = search rules }
 
 -- all of a list are, where each is
 pub all_wide : (d : Change) (cs : List Change) → ((i : ℕ) → i < length cs → Wide (get_or cs i d)) → AllWide cs
-all_wide d [] f = none-wide
-all_wide d (c ∷ cs) f = more-wide (f 0 (omega arith)) (all_wide d cs (λ i l. f (suc i) (omega arith)))
+all_wide d [] f = none_wide
+all_wide d (c ∷ cs) f = more_wide (f 0 (omega arith)) (all_wide d cs (λ i l. f (suc i) (omega arith)))

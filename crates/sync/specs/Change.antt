@@ -39,8 +39,8 @@ abbrev pub Wide : Change → Type 0
 Wide c = WideChange c.id c.diff.words
 
 pub data AllWide : List Change → Type 0 where
-  none-wide : AllWide []
-  more-wide : {c : Change} {cs : List Change} → Wide c → AllWide cs → AllWide (c ∷ cs)
+  none_wide : AllWide []
+  more_wide : {c : Change} {cs : List Change} → Wide c → AllWide cs → AllWide (c ∷ cs)
 
 -- "where (known b, fresh, or cell i)", as two numbers: 0 is known, 1 fresh, any other a cell
 abbrev pub where_of : Place → Where

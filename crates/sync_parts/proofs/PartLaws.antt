@@ -11,7 +11,7 @@ use Rattle.answers.specs.Answers.{given, refused, number_said}
 use Rattle.answers.specs.Refusals.{number_of}
 use Rattle.answers.specs.declared.Number.{Number}
 use Rattle.answers.specs.declared.Number.TheVariants as number
-use Rattle.answers.proofs.Laws.{given-one, given-refused, refusal-one}
+use Rattle.answers.proofs.Laws.{given_one, given_refused, refusal_one}
 use Rattle.answers.specs.contracts.Number as NumberT
 use Rattle.sync_parts.specs.Parts.{none, name_said, cells_at}
 use Rattle.sync_parts.specs.declared.Where.{Where}
@@ -44,22 +44,22 @@ no_name (N.Refused r) o q = absurd (out 2 refl o)
 
 -- a count that is given, and one that is refused
 pub counted : (t : Bool) (k v : ℕ) → given k ≡ cond t (given v) (refused 1) → k ≡ cond t v 0
-counted true k v e = given-one k v e
-counted false k v e = absurd (given-refused k 1 e)
+counted true k v e = given_one k v e
+counted false k v e = absurd (given_refused k 1 e)
 
 pub uncounted : (t : Bool) (x : Number) (v : ℕ) → OneOf (1 ∷ []) (tag_of NumberT.the_type x) → number_said x ≡ cond t (given v) (refused 1) → 0 ≡ cond t v 0
 uncounted t (number.Is m) v o e = absurd (omega arith)
-uncounted true (number.Refused r) v o e = absurd (given-refused v (number_of r) (sym e))
+uncounted true (number.Refused r) v o e = absurd (given_refused v (number_of r) (sym e))
 uncounted false (number.Refused r) v o e = refl
 
 -- two names that say the same are the same
-pub name-one : (a b : Name) → name_said a ≡ name_said b → a ≡ b
-name-one (N.Bucket b) (N.Bucket b') e = let f : b ≡ b' = cc in cc
-name-one (N.Bucket b) N.None e = let z : ◌≡◌ {A = ℕ} 0 1 = cc in absurd (omega arith)
-name-one (N.Bucket b) (N.Refused r') e = let z : ◌≡◌ {A = ℕ} 0 1 = cc in absurd (omega arith)
-name-one N.None (N.Bucket b') e = let z : ◌≡◌ {A = ℕ} 0 1 = cc in absurd (omega arith)
-name-one N.None N.None e = refl
-name-one N.None (N.Refused r') e = let z : ◌≡◌ {A = ℕ} 0 1 = cc in absurd (omega arith)
-name-one (N.Refused r) (N.Bucket b') e = let z : ◌≡◌ {A = ℕ} 0 1 = cc in absurd (omega arith)
-name-one (N.Refused r) N.None e = let z : ◌≡◌ {A = ℕ} 0 1 = cc in absurd (omega arith)
-name-one (N.Refused r) (N.Refused r') e = let f : r ≡ r' = refusal-one r r' cc in cc
+pub name_one : (a b : Name) → name_said a ≡ name_said b → a ≡ b
+name_one (N.Bucket b) (N.Bucket b') e = let f : b ≡ b' = cc in cc
+name_one (N.Bucket b) N.None e = let z : ◌≡◌ {A = ℕ} 0 1 = cc in absurd (omega arith)
+name_one (N.Bucket b) (N.Refused r') e = let z : ◌≡◌ {A = ℕ} 0 1 = cc in absurd (omega arith)
+name_one N.None (N.Bucket b') e = let z : ◌≡◌ {A = ℕ} 0 1 = cc in absurd (omega arith)
+name_one N.None N.None e = refl
+name_one N.None (N.Refused r') e = let z : ◌≡◌ {A = ℕ} 0 1 = cc in absurd (omega arith)
+name_one (N.Refused r) (N.Bucket b') e = let z : ◌≡◌ {A = ℕ} 0 1 = cc in absurd (omega arith)
+name_one (N.Refused r) N.None e = let z : ◌≡◌ {A = ℕ} 0 1 = cc in absurd (omega arith)
+name_one (N.Refused r) (N.Refused r') e = let f : r ≡ r' = refusal_one r r' cc in cc

@@ -13,7 +13,7 @@ use Rattle.answers.specs.Answers.{Answer, given, refused, truth_said, and_then}
 use Rattle.answers.specs.Refusals.{number_of}
 use Rattle.answers.specs.declared.Truth.{Truth}
 use Rattle.answers.specs.declared.Truth.TheVariants as T
-use Rattle.answers.proofs.Laws.{given-one, given-refused}
+use Rattle.answers.proofs.Laws.{given_one, given_refused}
 use Rattle.ht_file.specs.Places.{count_allowed, tags_length, image_length, tags_fit, image_fits, tags_of, if_tags, if_table}
 use Rattle.ht_file.proofs.Laws.{both_hold, image_fits_facts, table_unfit}
 use Rattle.label_search.specs.Labels.{doubled}
@@ -24,101 +24,101 @@ use Rattle.validate.specs.Audit.{path_audit, bucket_audit, audited_to, audit_of,
 use Rattle.validate.specs.InnerAudit.{paths_to}
 
 module _ (img : List ℕ) (n : ℕ) (hashes : List ℕ) where
-  pub paths-none : paths_to img n hashes 0 ≡ given tt
+  pub paths_none : paths_to img n hashes 0 ≡ given tt
   unfolding paths_to
-  paths-none = refl
+  paths_none = refl
 
-  pub paths-next : (k : ℕ) → paths_to img n hashes k ≡ given tt → paths_to img n hashes (k + 1) ≡ path_audit img n (get_or hashes k 0) k
+  pub paths_next : (k : ℕ) → paths_to img n hashes k ≡ given tt → paths_to img n hashes (k + 1) ≡ path_audit img n (get_or hashes k 0) k
   unfolding paths_to
-  paths-next k e = ap (paths_to img n hashes) (add-one k) ∙ ap (λ (a : Answer (Unit {0})). and_then a (λ _. path_audit img n (get_or hashes k 0) k)) e
+  paths_next k e = ap (paths_to img n hashes) (add-one k) ∙ ap (λ (a : Answer (Unit {0})). and_then a (λ _. path_audit img n (get_or hashes k 0) k)) e
 
   -- a refusal stays
-  pub paths-stop : (k m d : ℕ) → paths_to img n hashes k ≡ refused m → paths_to img n hashes (k + d) ≡ refused m
+  pub paths_stop : (k m d : ℕ) → paths_to img n hashes k ≡ refused m → paths_to img n hashes (k + d) ≡ refused m
   unfolding paths_to
-  paths-stop k m zero e = let z : k + 0 ≡ k = omega arith in ap (paths_to img n hashes) z ∙ e
-  paths-stop k m (suc d) e =
+  paths_stop k m zero e = let z : k + 0 ≡ k = omega arith in ap (paths_to img n hashes) z ∙ e
+  paths_stop k m (suc d) e =
       let z : k + suc d ≡ suc (k + d) = omega arith in
-      ap (paths_to img n hashes) z ∙ ap (λ (a : Answer (Unit {0})). and_then a (λ _. path_audit img n (get_or hashes (k + d) 0) (k + d))) (paths-stop k m d e)
+      ap (paths_to img n hashes) z ∙ ap (λ (a : Answer (Unit {0})). and_then a (λ _. path_audit img n (get_or hashes (k + d) 0) (k + d))) (paths_stop k m d e)
 
-  audited-stop : (k m d : ℕ) → audited_to img n hashes k ≡ refused m → audited_to img n hashes (k + d) ≡ refused m
+  audited_stop : (k m d : ℕ) → audited_to img n hashes k ≡ refused m → audited_to img n hashes (k + d) ≡ refused m
   unfolding audited_to
-  audited-stop k m zero e = let z : k + 0 ≡ k = omega arith in ap (audited_to img n hashes) z ∙ e
-  audited-stop k m (suc d) e =
+  audited_stop k m zero e = let z : k + 0 ≡ k = omega arith in ap (audited_to img n hashes) z ∙ e
+  audited_stop k m (suc d) e =
       let z : k + suc d ≡ suc (k + d) = omega arith in
-      ap (audited_to img n hashes) z ∙ ap (λ (a : Answer (Unit {0})). and_then a (λ _. bucket_audit img n (get_or hashes (k + d) 0) (k + d))) (audited-stop k m d e)
+      ap (audited_to img n hashes) z ∙ ap (λ (a : Answer (Unit {0})). and_then a (λ _. bucket_audit img n (get_or hashes (k + d) 0) (k + d))) (audited_stop k m d e)
 
   -- where no label is doubled
-  audited-paths : (k : ℕ) → ((b : ℕ) → b < k → doubled img n b ≡ false) → audited_to img n hashes k ≡ paths_to img n hashes k
+  audited_paths : (k : ℕ) → ((b : ℕ) → b < k → doubled img n b ≡ false) → audited_to img n hashes k ≡ paths_to img n hashes k
   unfolding audited_to paths_to
-  audited-paths zero f = refl
-  audited-paths (suc k) f =
-      ap₂ (λ (a : Answer (Unit {0})) (t : Bool). and_then a (λ _. cond t (refused 21) (path_audit img n (get_or hashes k 0) k))) (audited-paths k (λ b h. f b (omega arith))) (f k (omega arith))
+  audited_paths zero f = refl
+  audited_paths (suc k) f =
+      ap₂ (λ (a : Answer (Unit {0})) (t : Bool). and_then a (λ _. cond t (refused 21) (path_audit img n (get_or hashes k 0) k))) (audited_paths k (λ b h. f b (omega arith))) (f k (omega arith))
 
-  audited-next : (k : ℕ) → doubled img n k ≡ true → audited_to img n hashes (k + 1) ≡ and_then (audited_to img n hashes k) (λ _. refused 21)
+  audited_next : (k : ℕ) → doubled img n k ≡ true → audited_to img n hashes (k + 1) ≡ and_then (audited_to img n hashes k) (λ _. refused 21)
   unfolding audited_to
-  audited-next k e = ap (audited_to img n hashes) (add-one k) ∙ ap (λ (t : Bool). and_then (audited_to img n hashes k) (λ _. cond t (refused 21) (path_audit img n (get_or hashes k 0) k))) e
+  audited_next k e = ap (audited_to img n hashes) (add-one k) ∙ ap (λ (t : Bool). and_then (audited_to img n hashes k) (λ _. cond t (refused 21) (path_audit img n (get_or hashes k 0) k))) e
 
   module _ (first : ℕ) (d : FirstDoubled img n first) where
     -- a bucket before it is refused
-    pub audited-refused : (m : ℕ) → paths_to img n hashes first ≡ refused m → audited_to img n hashes n ≡ refused m
-    audited-refused m e =
+    pub audited_refused : (m : ℕ) → paths_to img n hashes first ≡ refused m → audited_to img n hashes n ≡ refused m
+    audited_refused m e =
         let z : first + (n - first) ≡ n = omega (arith, d.within) in
-        ap (audited_to img n hashes) (sym z) ∙ audited-stop first m (n - first) (audited-paths first d.none ∙ e)
+        ap (audited_to img n hashes) (sym z) ∙ audited_stop first m (n - first) (audited_paths first d.none ∙ e)
 
     -- it is the first to be refused
-    pub audited-twice : first < n → paths_to img n hashes first ≡ given tt → audited_to img n hashes n ≡ refused 21
-    audited-twice l e =
+    pub audited_twice : first < n → paths_to img n hashes first ≡ given tt → audited_to img n hashes n ≡ refused 21
+    audited_twice l e =
         let z : first + 1 + (n - (first + 1)) ≡ n = omega arith in
         ap (audited_to img n hashes) (sym z)
-        ∙ audited-stop (first + 1) 21 (n - (first + 1))
-        (audited-next first (d.there l) ∙ ap (λ (a : Answer (Unit {0})). and_then a (λ _. refused 21)) (audited-paths first d.none ∙ e))
+        ∙ audited_stop (first + 1) 21 (n - (first + 1))
+        (audited_next first (d.there l) ∙ ap (λ (a : Answer (Unit {0})). and_then a (λ _. refused 21)) (audited_paths first d.none ∙ e))
 
     -- none is
-    pub audited-passed : n ≤ first → paths_to img n hashes first ≡ given tt → audited_to img n hashes n ≡ given tt
-    audited-passed l e =
+    pub audited_passed : n ≤ first → paths_to img n hashes first ≡ given tt → audited_to img n hashes n ≡ given tt
+    audited_passed l e =
         let z : n ≡ first = omega (arith, d.within) in
-        ap (audited_to img n hashes) z ∙ audited-paths first d.none ∙ e
+        ap (audited_to img n hashes) z ∙ audited_paths first d.none ∙ e
 
 -- ---- the whole audit, test by test
 module _ (img : List ℕ) (n : ℕ) (hashes : List ℕ) where
-  pub audit-unfit : (m : ℕ) → if_table {A = Unit {0}} (image_fits n (length img)) (given tt) ≡ refused m → refused m ≡ audit_answer img n hashes
+  pub audit_unfit : (m : ℕ) → if_table {A = Unit {0}} (image_fits n (length img)) (given tt) ≡ refused m → refused m ≡ audit_answer img n hashes
   unfolding audit_answer
-  audit-unfit m e =
+  audit_unfit m e =
       table_unfit (image_fits n (length img)) m
       (cond (eqb (length hashes) n) (cond (padding_empty (tags_of n img) n) (and_then (audited_to img n hashes n) (λ _. given (audit_of img n))) (refused 20)) (refused 2)) e
 
   module _ (fits : image_fits n (length img) ≡ true) where
-    pub audit-hashes : (length hashes ≡ n → ⊥) → audit_answer img n hashes ≡ refused 2
+    pub audit_hashes : (length hashes ≡ n → ⊥) → audit_answer img n hashes ≡ refused 2
     unfolding audit_answer
-    audit-hashes f = rw (fits, ne_eqb (length hashes) n f)
+    audit_hashes f = rw (fits, ne_eqb (length hashes) n f)
 
     module _ (each : length hashes ≡ n) where
-      pub audit-padding : padding_empty (tags_of n img) n ≡ false → audit_answer img n hashes ≡ refused 20
+      pub audit_padding : padding_empty (tags_of n img) n ≡ false → audit_answer img n hashes ≡ refused 20
       unfolding audit_answer
-      audit-padding e = rw (fits, eq-eqb (length hashes) n each, e)
+      audit_padding e = rw (fits, eq-eqb (length hashes) n each, e)
 
-      pub audit-buckets : padding_empty (tags_of n img) n ≡ true → audit_answer img n hashes ≡ and_then (audited_to img n hashes n) (λ _. given (audit_of img n))
+      pub audit_buckets : padding_empty (tags_of n img) n ≡ true → audit_answer img n hashes ≡ and_then (audited_to img n hashes n) (λ _. given (audit_of img n))
       unfolding audit_answer
-      audit-buckets e = rw (fits, eq-eqb (length hashes) n each, e)
+      audit_buckets e = rw (fits, eq-eqb (length hashes) n each, e)
 
 -- ---- the tag pages of an image
 module _ (n : ℕ) (img : List ℕ) (fits : image_fits n (length img) ≡ true) where
-  pub tags-long : length (tags_of n img) ≡ tags_length n
-  tags-long = let f = image_fits_facts n (length img) fits in length-take-le (tags_length n) img (omega (arith, f.2))
+  pub tags_long : length (tags_of n img) ≡ tags_length n
+  tags_long = let f = image_fits_facts n (length img) fits in length-take-le (tags_length n) img (omega (arith, f.2))
 
-  tags-fit : tags_fit n (length (tags_of n img)) ≡ true
-  tags-fit = ap₂ ◌&&◌ (both_hold (count_allowed n) (eqb (length img) (image_length n)) fits).0 (eq-eqb (length (tags_of n img)) (tags_length n) tags-long)
+  tags_fit_lem : tags_fit n (length (tags_of n img)) ≡ true
+  tags_fit_lem = ap₂ ◌&&◌ (both_hold (count_allowed n) (eqb (length img) (image_length n)) fits).0 (eq-eqb (length (tags_of n img)) (tags_length n) tags_long)
 
   -- a question about the tags is answered
-  pub tags-asked : {A : Type 0} (x : Answer A) → if_tags (tags_of n img) n x ≡ x
-  tags-asked {A} x = ap (λ (t : Bool). cond t x (refused 1)) tags-fit
+  pub tags_asked : {A : Type 0} (x : Answer A) → if_tags (tags_of n img) n x ≡ x
+  tags_asked {A} x = ap (λ (t : Bool). cond t x (refused 1)) tags_fit_lem
 
   -- the full tags are those of the image
-  pub tags-counted : count_of full (tags_of n img) n ≡ count_of full img n
-  tags-counted = count_agree full (tags_of n img) img n (λ i l. get_or-take (tags_length n) img i 0 (omega arith))
+  pub tags_counted : count_of full (tags_of n img) n ≡ count_of full img n
+  tags_counted = count_agree full (tags_of n img) img n (λ i l. get_or-take (tags_length n) img i 0 (omega arith))
 
 -- what the question after the padding told
 pub padding_told : (r : Truth) (t : Bool) → truth_said r ≡ given t → (r ≡ T.Holds → ⊥) → t ≡ false
 padding_told T.Holds t e o = absurd (o refl)
-padding_told T.Fails t e o = sym (given-one false t e)
-padding_told (T.Refused r) t e o = absurd (given-refused t (number_of r) (sym e))
+padding_told T.Fails t e o = sym (given_one false t e)
+padding_told (T.Refused r) t e o = absurd (given_refused t (number_of r) (sym e))

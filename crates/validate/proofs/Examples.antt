@@ -19,8 +19,8 @@ use Rattle.probe.specs.Path.{visit}
 use Rattle.validate.specs.Audit.{reaching, audit_visits, stops_reach, path_audit, bucket_audit, audited_to, rate_of, audit_of, audit_answer, audited_said}
 use Rattle.validate.specs.declared.Audit.{Audit}
 use Rattle.validate.specs.declared.Audited.TheVariants as audited
-use Rattle.validate.proofs.Audits.{audit-buckets}
-use Rattle.validate.proofs.Reaches.{reached-at, empty-at, never-at}
+use Rattle.validate.proofs.Audits.{audit_buckets}
+use Rattle.validate.proofs.Reaches.{reached_at, empty_at_lem, never_at}
 
 -- images whose tags begin with these, and all of whose pages are zero
 abbrev one : ℕ → ℕ → List ℕ
@@ -63,29 +63,29 @@ both_audited img hashes x e f = next_audited img 2 hashes 1 x (next_audited img 
 first_passes : (t : ℕ) → bucket_audit (two 0x80 t) 2 0 0 ≡ given tt
 unfolding visit labelled
 first_passes t =
-    bucket_by (two 0x80 t) 2 0 0 refl refl refl ∙ reached-at (two 0x80 t) 2 0 0 (omega arith) 0 (omega arith) (λ j x y. absurd (omega arith)) refl
+    bucket_by (two 0x80 t) 2 0 0 refl refl refl ∙ reached_at (two 0x80 t) 2 0 0 (omega arith) 0 (omega arith) (λ j x y. absurd (omega arith)) refl
 
 half_full : audit_answer (two 0x80 0x00) 2 (0 ∷ 0 ∷ []) ≡ given (audit 2 1 0x3FE0000000000000)
 unfolding labelled all_zero count_of rate_of Ieee.div Ieee.of_int Ieee.of_bits
 half_full =
-    audit-buckets (two 0x80 0x00) 2 (0 ∷ 0 ∷ []) refl refl refl
+    audit_buckets (two 0x80 0x00) 2 (0 ∷ 0 ∷ []) refl refl refl
     ∙ ap (λ (a : Answer (Unit {0})). and_then a (λ _. given (audit_of (two 0x80 0x00) 2))) (both_audited (two 0x80 0x00) (0 ∷ 0 ∷ []) (given tt) (first_passes 0x00) refl)
 
 label_twice : audit_answer (two 0x80 0x80) 2 (0 ∷ 1 ∷ []) ≡ refused 21
 unfolding labelled all_zero
 label_twice =
-    audit-buckets (two 0x80 0x80) 2 (0 ∷ 1 ∷ []) refl refl refl
+    audit_buckets (two 0x80 0x80) 2 (0 ∷ 1 ∷ []) refl refl refl
     ∙ ap (λ (a : Answer (Unit {0})). and_then a (λ _. given (audit_of (two 0x80 0x80) 2))) (both_audited (two 0x80 0x80) (0 ∷ 1 ∷ []) (refused 21) (first_passes 0x80) refl)
 
 -- bucket 1 of two, whose path begins at the empty bucket 0
 empty_first : audit_answer (two 0x00 0x80) 2 (0 ∷ 0 ∷ []) ≡ refused 23
 unfolding visit labelled all_zero
 empty_first =
-    audit-buckets (two 0x00 0x80) 2 (0 ∷ 0 ∷ []) refl refl refl
+    audit_buckets (two 0x00 0x80) 2 (0 ∷ 0 ∷ []) refl refl refl
     ∙ ap (λ (a : Answer (Unit {0})). and_then a (λ _. given (audit_of (two 0x00 0x80) 2)))
     (both_audited (two 0x00 0x80) (0 ∷ 0 ∷ []) (refused 23) refl
     (bucket_by (two 0x00 0x80) 2 0 1 refl refl refl
-    ∙ empty-at (two 0x00 0x80) 2 0 1 (omega arith) 0 (omega arith) (λ j x y. absurd (omega arith)) (λ e. let z : ◌≡◌ {A = ℕ} 0 1 = e in omega arith) refl))
+    ∙ empty_at_lem (two 0x00 0x80) 2 0 1 (omega arith) 0 (omega arith) (λ j x y. absurd (omega arith)) (λ e. let z : ◌≡◌ {A = ℕ} 0 1 = e in omega arith) refl))
 
 -- bucket 2 of three, whose path is 0 1 0 0 1 0 for ever
 not_reached : audit_answer (three 0x7F 0x7F 0x80) 3 (0 ∷ 0 ∷ 0 ∷ []) ≡ refused 24
@@ -93,11 +93,11 @@ unfolding visit labelled all_zero
 not_reached =
     let img = three 0x7F 0x7F 0x80 in
     let hs : List ℕ = 0 ∷ 0 ∷ 0 ∷ [] in
-    audit-buckets img 3 hs refl refl refl
+    audit_buckets img 3 hs refl refl refl
     ∙ ap (λ (a : Answer (Unit {0})). and_then a (λ _. given (audit_of img 3)))
     (next_audited img 3 hs 2 (refused 24)
     (next_audited img 3 hs 1 (given tt) (next_audited img 3 hs 0 (given tt) (none_audited img 3 hs) refl) refl)
-    (bucket_by img 3 0 2 refl refl refl ∙ never-at img 3 0 2 (omega arith) passed))
+    (bucket_by img 3 0 2 refl refl refl ∙ never_at img 3 0 2 (omega arith) passed))
   where
     passed : (j : ℕ) → 0 ≤ j → j < 3 → stops_reach (three 0x7F 0x7F 0x80) 2 (visit 3 0 j) ≡ false
     passed zero x y = refl

@@ -13,7 +13,7 @@ use Rattle.answers.specs.Answers.{given, refused}
 use Rattle.probe.specs.Path.{visit, visits, Stop, stop_at, nowhere, first_stop, is_empty}
 use Rattle.probe.proofs.Tests.{empty_is, empty_not}
 use Rattle.probe.proofs.Visits.{visit_below, visit_next, path_turns, path_mirror}
-use Rattle.probe.proofs.Walk.{Passed, Stopped, stop-here, stop-never, stop-told}
+use Rattle.probe.proofs.Walk.{Passed, Stopped, stop_here, stop_never, stop_told}
 use Rattle.validate.specs.Audit.{audit_visits, stops_reach, reach_saw, reaching}
 
 -- at least two rounds are made
@@ -51,46 +51,46 @@ module _ (img : List ℕ) (n h b : ℕ) (some : 0 < n) where
   passes c e f = ap₂ ◌||◌ (ne_eqb c b e) (empty_not (get_or img c 0) f)
 
   stops : (k : ℕ) → k < n → Passed (stops_reach img b) n h 0 k → stops_reach img b (visit n h k) ≡ true → first_stop (stops_reach img b) 0 (visits n h 0 (audit_visits n)) ≡ stop_at (visit n h k) k
-  stops k l a e = stop-here (stops_reach img b) n h 0 (audit_visits n) k (omega arith) (omega (arith, two_rounds n)) a e
+  stops k l a e = stop_here (stops_reach img b) n h 0 (audit_visits n) k (omega arith) (omega (arith, two_rounds n)) a e
 
-  pub reached-at : (k : ℕ) → k < n → Passed (stops_reach img b) n h 0 k → visit n h k ≡ b → reaching img n h b ≡ given tt
+  pub reached_at : (k : ℕ) → k < n → Passed (stops_reach img b) n h 0 k → visit n h k ≡ b → reaching img n h b ≡ given tt
   unfolding reaching
-  reached-at k l a e =
+  reached_at k l a e =
       let t : eqb (visit n h k) b ≡ true = eq-eqb (visit n h k) b e in
       ap (reach_saw b) (stops k l a (ap (λ (x : Bool). x || is_empty (get_or img (visit n h k) 0)) t)) ∙ ap (λ (x : Bool). cond x (given tt) (refused 23)) t
 
-  pub empty-at : (k : ℕ) → k < n → Passed (stops_reach img b) n h 0 k → (visit n h k ≡ b → ⊥) → get_or img (visit n h k) 0 ≡ 0x00 → reaching img n h b ≡ refused 23
+  pub empty_at_lem : (k : ℕ) → k < n → Passed (stops_reach img b) n h 0 k → (visit n h k ≡ b → ⊥) → get_or img (visit n h k) 0 ≡ 0x00 → reaching img n h b ≡ refused 23
   unfolding reaching
-  empty-at k l a f e =
+  empty_at_lem k l a f e =
       let t : eqb (visit n h k) b ≡ false = ne_eqb (visit n h k) b f in
       ap (reach_saw b) (stops k l a (ap₂ ◌||◌ t (empty_is (get_or img (visit n h k) 0) e))) ∙ ap (λ (x : Bool). cond x (given tt) (refused 23)) t
 
-  pub never-at : Passed (stops_reach img b) n h 0 n → reaching img n h b ≡ refused 24
+  pub never_at : Passed (stops_reach img b) n h 0 n → reaching img n h b ≡ refused 24
   unfolding reaching
-  never-at a = ap (reach_saw b) (stop-never (stops_reach img b) n h 0 (audit_visits n) (λ j x y. passed_all (stops_reach img b) n h (0 + audit_visits n) some a j x y))
+  never_at a = ap (reach_saw b) (stop_never (stops_reach img b) n h 0 (audit_visits n) (λ j x y. passed_all (stops_reach img b) n h (0 + audit_visits n) some a j x y))
 
   -- a bucket that is reached is visited within 2n visits, and none before is empty
-  pub reached-told : reaching img n h b ≡ given tt → (k : ℕ) × (k < 2 * n) × (visit n h k ≡ b) × ((j : ℕ) → j < k → get_or img (visit n h j) 0 ≡ 0x00 → ⊥)
+  pub reached_told : reaching img n h b ≡ given tt → (k : ℕ) × (k < 2 * n) × (visit n h k ≡ b) × ((j : ℕ) → j < k → get_or img (visit n h j) 0 ≡ 0x00 → ⊥)
   unfolding reaching
-  reached-told e = go (first_stop (stops_reach img b) 0 (visits n h 0 (audit_visits n))) refl e
+  reached_told e = go (first_stop (stops_reach img b) 0 (visits n h 0 (audit_visits n))) refl e
     where
       Result : Type 0
       Result = (k : ℕ) × (k < 2 * n) × (visit n h k ≡ b) × ((j : ℕ) → j < k → get_or img (visit n h j) 0 ≡ 0x00 → ⊥)
 
-      or-true : (a : Bool) → (a || true) ≡ true
-      or-true true = refl
-      or-true false = refl
+      or_true : (a : Bool) → (a || true) ≡ true
+      or_true true = refl
+      or_true false = refl
 
-      at-stop : (c k : ℕ) → Stopped (stops_reach img b) n h 0 (audit_visits n) c k → (t : Bool) → eqb c b ≡ t → cond t (given (tt {0})) (refused 23) ≡ given (tt {0}) → Result
-      at-stop c k s true q r =
+      at_stop : (c k : ℕ) → Stopped (stops_reach img b) n h 0 (audit_visits n) c k → (t : Bool) → eqb c b ≡ t → cond t (given (tt {0})) (refused 23) ≡ given (tt {0}) → Result
+      at_stop c k s true q r =
           let m : k % (2 * n) ≤ k = mod-le k (2 * n) in (
             k % (2 * n),
             mod-lt k {m = 2 * n} (omega arith),
             path_turns n h k ∙ sym s.here ∙ eqb-true c b q,
-            λ j l z. true≢false (sym (ap (λ (x : Bool). eqb (visit n h j) b || x) (empty_is (get_or img (visit n h j) 0) z) ∙ or-true (eqb (visit n h j) b)) ∙ s.first j (omega arith) (omega arith)),
+            λ j l z. true≢false (sym (ap (λ (x : Bool). eqb (visit n h j) b || x) (empty_is (get_or img (visit n h j) 0) z) ∙ or_true (eqb (visit n h j) b)) ∙ s.first j (omega arith) (omega arith)),
           )
-      at-stop c k s false q r = let z : ◌≡◌ {A = ℕ} 0 1 = cc in absurd (omega arith)
+      at_stop c k s false q r = let z : ◌≡◌ {A = ℕ} 0 1 = cc in absurd (omega arith)
 
       go : (s : Stop) → first_stop (stops_reach img b) 0 (visits n h 0 (audit_visits n)) ≡ s → reach_saw b s ≡ given tt → Result
-      go (stop_at c k) s q = at-stop c k (stop-told (stops_reach img b) n h 0 (audit_visits n) c k s) (eqb c b) refl q
+      go (stop_at c k) s q = at_stop c k (stop_told (stops_reach img b) n h 0 (audit_visits n) c k s) (eqb c b) refl q
       go nowhere s q = let z : ◌≡◌ {A = ℕ} 0 1 = cc in absurd (omega arith)

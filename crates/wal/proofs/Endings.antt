@@ -41,12 +41,12 @@ wanted_zero log p e j h = let back : p + (j - p) ≡ j = omega arith in sym (ap 
 -- ---- at a position
 module _ (rule : AfterEnd) (ed : Edition) (log : List ℕ) (at : ℕ) where
   -- where what is wanted follows, and wherever there is no end
-  pub next-agrees : wanted rule log (at + mark_size ed) ≡ true → next_by rule ed log at ≡ next_by Tolerant ed log at
-  next-agrees e = ap (λ (t : Bool). on_end t (next_at ed log at)) e
+  pub next_agrees : wanted rule log (at + mark_size ed) ≡ true → next_by rule ed log at ≡ next_by Tolerant ed log at
+  next_agrees e = ap (λ (t : Bool). on_end t (next_at ed log at)) e
 
   -- they agree, or the tolerant reader is at end and the other answers 27
-  pub next-differs : (next_by rule ed log at ≡ next_by Tolerant ed log at) ⊎ ((next_by Tolerant ed log at ≡ ended) × (next_by rule ed log at ≡ stopped 27))
-  next-differs = go (wanted rule log (at + mark_size ed)) (next_at ed log at)
+  pub next_differs : (next_by rule ed log at ≡ next_by Tolerant ed log at) ⊎ ((next_by Tolerant ed log at ≡ ended) × (next_by rule ed log at ≡ stopped 27))
+  next_differs = go (wanted rule log (at + mark_size ed)) (next_at ed log at)
     where
       go : (t : Bool) (x : Next) → (on_end t x ≡ x) ⊎ ((x ≡ ended) × (on_end t x ≡ stopped 27))
       go true x = inl refl
@@ -74,59 +74,59 @@ refused_stays false n = refl
 
 module _ (rule : AfterEnd) (ed : Edition) (log : List ℕ) where
   -- one record more, where the rest reads so
-  more-ended : (at : ℕ) (f g : ℕ → Reading) → ((p : ℕ) → f p ≡ ended_by rule ed log (g p)) → (t : Bool) → wanted rule log (at + mark_size ed) ≡ t → (x : Next)
+  more_ended : (at : ℕ) (f g : ℕ → Reading) → ((p : ℕ) → f p ≡ ended_by rule ed log (g p)) → (t : Bool) → wanted rule log (at + mark_size ed) ≡ t → (x : Next)
       → read_on (on_end t x) at f ≡ ended_by rule ed log (read_on x at g)
-  more-ended at f g same true e (next x p) = ap (and_then x) (same p)
-  more-ended at f g same false e (next x p) = ap (and_then x) (same p)
-  more-ended at f g same true e ended = sym (ap (λ (t : Bool). stop_at at (stop_by t (given tt))) e)
-  more-ended at f g same false e ended = sym (ap (λ (t : Bool). stop_at at (stop_by t (given tt))) e)
-  more-ended at f g same true e (stopped n) = ap (stop_at at) (refused_stays (wanted rule log (at + mark_size ed)) n)
-  more-ended at f g same false e (stopped n) = ap (stop_at at) (refused_stays (wanted rule log (at + mark_size ed)) n)
+  more_ended at f g same true e (next x p) = ap (and_then x) (same p)
+  more_ended at f g same false e (next x p) = ap (and_then x) (same p)
+  more_ended at f g same true e ended = sym (ap (λ (t : Bool). stop_at at (stop_by t (given tt))) e)
+  more_ended at f g same false e ended = sym (ap (λ (t : Bool). stop_at at (stop_by t (given tt))) e)
+  more_ended at f g same true e (stopped n) = ap (stop_at at) (refused_stays (wanted rule log (at + mark_size ed)) n)
+  more_ended at f g same false e (stopped n) = ap (stop_at at) (refused_stays (wanted rule log (at + mark_size ed)) n)
 
   -- one law: the entries and the place are the tolerant reader's, and so is the stop but for 27
-  pub read-ended : (f : ℕ) (at : ℕ) → read_in rule ed f log at ≡ ended_by rule ed log (read_in Tolerant ed f log at)
+  pub read_ended : (f : ℕ) (at : ℕ) → read_in rule ed f log at ≡ ended_by rule ed log (read_in Tolerant ed f log at)
   unfolding read_by
-  read-ended zero at =
-      more-ended at (λ p. stop_at p (refused 6)) (λ p. stop_at p (refused 6)) (λ p. ap (stop_at p) (refused_stays (wanted rule log (p + mark_size ed)) 6)) (wanted rule log (at + mark_size ed)) refl (next_at ed log at)
-  read-ended (suc f) at =
-      more-ended at (λ p. read_in rule ed f log p) (λ p. read_in Tolerant ed f log p) (λ p. read-ended f p) (wanted rule log (at + mark_size ed)) refl (next_at ed log at)
+  read_ended zero at =
+      more_ended at (λ p. stop_at p (refused 6)) (λ p. stop_at p (refused 6)) (λ p. ap (stop_at p) (refused_stays (wanted rule log (p + mark_size ed)) 6)) (wanted rule log (at + mark_size ed)) refl (next_at ed log at)
+  read_ended (suc f) at =
+      more_ended at (λ p. read_in rule ed f log p) (λ p. read_in Tolerant ed f log p) (λ p. read_ended f p) (wanted rule log (at + mark_size ed)) refl (next_at ed log at)
 
 -- ---- a whole log
 module _ (rule : AfterEnd) (log : List ℕ) where
   abbrev tolerant : Reading
   tolerant = read_log Tolerant log
 
-  log-ended : read_log rule log ≡ ended_by rule (edition_at log) log (read_log Tolerant log)
-  log-ended = read-ended rule (edition_at log) log (length log) (start_size (edition_at log))
+  log_ended : read_log rule log ≡ ended_by rule (edition_at log) log (read_log Tolerant log)
+  log_ended = read_ended rule (edition_at log) log (length log) (start_size (edition_at log))
 
   -- the entries do not depend on what follows end
   pub same_entries : (read_log rule log).entries ≡ (read_log Tolerant log).entries
-  same_entries = ap (λ (r : Reading). r.entries) log-ended
+  same_entries = ap (λ (r : Reading). r.entries) log_ended
 
   -- "default and tolerant agree on every log whose bytes after end are zero"
-  pub log-agrees : wanted rule log ((read_log Tolerant log).at + mark_size (edition_at log)) ≡ true → read_log rule log ≡ read_log Tolerant log
-  log-agrees e = log-ended ∙ ap (λ (t : Bool). record { entries = tolerant.entries; at = tolerant.at; stop = stop_by t tolerant.stop }) e
+  pub log_agrees : wanted rule log ((read_log Tolerant log).at + mark_size (edition_at log)) ≡ true → read_log rule log ≡ read_log Tolerant log
+  log_agrees e = log_ended ∙ ap (λ (t : Bool). record { entries = tolerant.entries; at = tolerant.at; stop = stop_by t tolerant.stop }) e
 
   -- "where they differ the default's answer is 27"
-  pub log-differs : (read_log rule log ≡ read_log Tolerant log) ⊎ (((read_log Tolerant log).stop ≡ given tt) × ((read_log rule log).stop ≡ refused 27))
-  log-differs = go (wanted rule log (tolerant.at + mark_size (edition_at log))) refl tolerant.stop refl
+  pub log_differs : (read_log rule log ≡ read_log Tolerant log) ⊎ (((read_log Tolerant log).stop ≡ given tt) × ((read_log rule log).stop ≡ refused 27))
+  log_differs = go (wanted rule log (tolerant.at + mark_size (edition_at log))) refl tolerant.stop refl
     where
       go : (t : Bool) → wanted rule log (tolerant.at + mark_size (edition_at log)) ≡ t → (a : Answer (Unit {0})) → tolerant.stop ≡ a
           → (read_log rule log ≡ read_log Tolerant log) ⊎ (((read_log Tolerant log).stop ≡ given tt) × ((read_log rule log).stop ≡ refused 27))
-      go true e a h = inl (log-agrees e)
-      go false e (given tt) h = inr (h, ap (λ (r : Reading). r.stop) log-ended ∙ ap₂ stop_by e h)
+      go true e a h = inl (log_agrees e)
+      go false e (given tt) h = inr (h, ap (λ (r : Reading). r.stop) log_ended ∙ ap₂ stop_by e h)
       go false e (refused n) h =
-          inl (log-ended ∙ ap (λ (a : Answer (Unit {0})). record { entries = tolerant.entries; at = tolerant.at; stop = a }) (ap₂ stop_by e h ∙ sym h))
+          inl (log_ended ∙ ap (λ (a : Answer (Unit {0})). record { entries = tolerant.entries; at = tolerant.at; stop = a }) (ap₂ stop_by e h ∙ sym h))
 
 -- a log that is read to its end with zeros wanted has nothing but zeros after the mark of end
 pub ends_in_zeros : (log : List ℕ) → (read_log Zeros log).stop ≡ given tt → (j : ℕ) → (read_log Zeros log).at + mark_size (edition_at log) ≤ j → get_or log j 0 ≡ 0
 ends_in_zeros log ok j h = go (wanted Zeros log ((tolerant Zeros log).at + mark_size (edition_at log))) refl (tolerant Zeros log).stop refl
   where
     stop_is : (read_log Zeros log).stop ≡ stop_by (wanted Zeros log ((tolerant Zeros log).at + mark_size (edition_at log))) (tolerant Zeros log).stop
-    stop_is = ap (λ (r : Reading). r.stop) (log-ended Zeros log)
+    stop_is = ap (λ (r : Reading). r.stop) (log_ended Zeros log)
 
     same_place : (read_log Zeros log).at ≡ (tolerant Zeros log).at
-    same_place = ap (λ (r : Reading). r.at) (log-ended Zeros log)
+    same_place = ap (λ (r : Reading). r.at) (log_ended Zeros log)
 
     go : (t : Bool) → wanted Zeros log ((tolerant Zeros log).at + mark_size (edition_at log)) ≡ t → (a : Answer (Unit {0})) → (tolerant Zeros log).stop ≡ a → get_or log j 0 ≡ 0
     go true e a q = wanted_zero log ((tolerant Zeros log).at + mark_size (edition_at log)) e j (omega (arith, same_place))
@@ -136,4 +136,4 @@ ends_in_zeros log ok j h = go (wanted Zeros log ((tolerant Zeros log).at + mark_
 -- and one that the tolerant reader reads to its end, with a byte after it that is not zero, stops with 27
 pub used_stops : (log : List ℕ) → (read_log Tolerant log).stop ≡ given tt → (j : ℕ) → (read_log Tolerant log).at + mark_size (edition_at log) ≤ j → (get_or log j 0 ≡ 0 → ⊥) → (read_log Zeros log).stop ≡ refused 27
 used_stops log ok j h used =
-    ap (λ (r : Reading). r.stop) (log-ended Zeros log) ∙ ap₂ stop_by (used_unwanted log ((read_log Tolerant log).at + mark_size (edition_at log)) j h used) ok
+    ap (λ (r : Reading). r.stop) (log_ended Zeros log) ∙ ap₂ stop_by (used_unwanted log ((read_log Tolerant log).at + mark_size (edition_at log)) j h used) ok

@@ -81,10 +81,10 @@ update-length ed id ws ns el b h =
       length-append (bytes_of_words ws) (flat ns ++ (el ++ bytes_of 8 b)),
       length-append (flat ns) (el ++ bytes_of 8 b),
       length-append el (bytes_of 8 b),
-      h.wide.change.id-long,
+      h.wide.change.id_long,
       words-length ws,
       flat-length ns h.rows,
-      h.wide.elided-long,
+      h.wide.elided_long,
       bytes-length 8 b,
     )
 
@@ -121,23 +121,23 @@ module _ (ed : Edition) (pre post : List ℕ) (b : ℕ) (small : b < 2 ^ 64) whe
   abbrev clear_after : ℕ
   clear_after = length pre + mark_size ed
 
-  clear-log-length : length with_clear ≡ length pre + (clear_size ed + length post)
-  clear-log-length =
+  clear_log-length : length with_clear ≡ length pre + (clear_size ed + length post)
+  clear_log-length =
       length-append pre (record_of ed (clear b) ++ post) ∙ ap (λ (n : ℕ). length pre + n) (length-append (record_of ed (clear b)) post ∙ ap (λ (n : ℕ). n + length post) (clear-length ed b))
 
-  clear-bucket : le (block 8 with_clear (length pre + mark_size ed)) ≡ b
+  clear_bucket : le (block 8 with_clear (length pre + mark_size ed)) ≡ b
   unfolding record_of
-  clear-bucket =
+  clear_bucket =
       ap le (block_in 8 with_clear clear_after (pre ++ mark ed 3) (bytes_of 8 b) post (simp append_assoc) (omega (arith, length-append pre (mark ed 3), mark-length ed 3)) (bytes-length 8 b)) ∙ le-bytes_of 8 b small
 
-  pub next-clear : next_at ed with_clear (length pre) ≡ next (clear b) (length pre + clear_size ed)
+  pub next_clear_lem : next_at ed with_clear (length pre) ≡ next (clear b) (length pre + clear_size ed)
   unfolding next_at clear_at record_of
-  next-clear =
+  next_clear_lem =
       let p : ℕ = length pre + mark_size ed in
       let after : p + 8 ≡ length pre + clear_size ed = omega arith in
       mark_in ed with_clear pre 3 (bytes_of 8 b ++ post) (λ t. by_tag t with_clear p) stopped (simp append_assoc)
-      ∙ ap (λ (t : Bool). cond t (next (clear (le (block 8 with_clear p))) (p + 8)) (stopped 6)) (le-leb (p + 8) (length with_clear) (omega (arith, clear-log-length)))
-      ∙ ap₂ (λ (n q : ℕ). next (clear n) q) clear-bucket after
+      ∙ ap (λ (t : Bool). cond t (next (clear (le (block 8 with_clear p))) (p + 8)) (stopped 6)) (le-leb (p + 8) (length with_clear) (omega (arith, clear_log-length)))
+      ∙ ap₂ (λ (n q : ℕ). next (clear n) q) clear_bucket after
 
 -- ---- an update
 module _ (ed : Edition) (pre post id ws : List ℕ) (ns : List (List ℕ)) (el : List ℕ) (b : ℕ) (h : Handed id ws ns el b) where
@@ -147,55 +147,55 @@ module _ (ed : Edition) (pre post id ws : List ℕ) (ns : List (List ℕ)) (el :
   abbrev body : ℕ
   body = length pre + mark_size ed
 
-  update-log-length : length with_update ≡ length pre + (update_size ed (length ns) + length post)
-  update-log-length =
+  update_log-length : length with_update ≡ length pre + (update_size ed (length ns) + length post)
+  update_log-length =
       length-append pre (record_of ed (update id ws ns el b) ++ post)
       ∙ ap (λ (n : ℕ). length pre + n) (length-append (record_of ed (update id ws ns el b)) post ∙ ap (λ (n : ℕ). n + length post) (update-length ed id ws ns el b h))
 
   -- where each part stands
-  head-mark : length (pre ++ mark ed 4) ≡ length pre + mark_size ed
-  head-mark = omega (arith, length-append pre (mark ed 4), mark-length ed 4)
+  head_mark : length (pre ++ mark ed 4) ≡ length pre + mark_size ed
+  head_mark = omega (arith, length-append pre (mark ed 4), mark-length ed 4)
 
-  head-diff : length ((pre ++ mark ed 4) ++ id) ≡ body + 32
-  head-diff = omega (arith, head-mark, length-append (pre ++ mark ed 4) id, h.wide.change.id-long)
+  head_diff : length ((pre ++ mark ed 4) ++ id) ≡ body + 32
+  head_diff = omega (arith, head_mark, length-append (pre ++ mark ed 4) id, h.wide.change.id_long)
 
-  head-body : length (((pre ++ mark ed 4) ++ id) ++ bytes_of_words ws) ≡ body + 48
-  head-body = omega (arith, head-diff, length-append ((pre ++ mark ed 4) ++ id) (bytes_of_words ws), words-length ws)
+  head_body : length (((pre ++ mark ed 4) ++ id) ++ bytes_of_words ws) ≡ body + 48
+  head_body = omega (arith, head_diff, length-append ((pre ++ mark ed 4) ++ id) (bytes_of_words ws), words-length ws)
 
-  head-nodes : length ((((pre ++ mark ed 4) ++ id) ++ bytes_of_words ws) ++ flat ns) ≡ body + 48 + 32 * length ns
-  head-nodes = omega (arith, head-body, length-append (((pre ++ mark ed 4) ++ id) ++ bytes_of_words ws) (flat ns), flat-length ns h.rows)
+  head_nodes : length ((((pre ++ mark ed 4) ++ id) ++ bytes_of_words ws) ++ flat ns) ≡ body + 48 + 32 * length ns
+  head_nodes = omega (arith, head_body, length-append (((pre ++ mark ed 4) ++ id) ++ bytes_of_words ws) (flat ns), flat-length ns h.rows)
 
-  head-elided : length (((((pre ++ mark ed 4) ++ id) ++ bytes_of_words ws) ++ flat ns) ++ el) ≡ body + 56 + 32 * length ns
-  head-elided = omega (arith, head-nodes, length-append ((((pre ++ mark ed 4) ++ id) ++ bytes_of_words ws) ++ flat ns) el, h.wide.elided-long)
+  head_elided : length (((((pre ++ mark ed 4) ++ id) ++ bytes_of_words ws) ++ flat ns) ++ el) ≡ body + 56 + 32 * length ns
+  head_elided = omega (arith, head_nodes, length-append ((((pre ++ mark ed 4) ++ id) ++ bytes_of_words ws) ++ flat ns) el, h.wide.elided_long)
 
-  id-back : block 32 with_update body ≡ id
+  id_back : block 32 with_update body ≡ id
   unfolding record_of
-  id-back =
-      block_in 32 with_update body (pre ++ mark ed 4) id ((bytes_of_words ws ++ (flat ns ++ (el ++ bytes_of 8 b))) ++ post) (simp append_assoc) (sym head-mark) h.wide.change.id-long
+  id_back =
+      block_in 32 with_update body (pre ++ mark ed 4) id ((bytes_of_words ws ++ (flat ns ++ (el ++ bytes_of 8 b))) ++ post) (simp append_assoc) (sym head_mark) h.wide.change.id_long
 
-  diff-back : diff_at with_update body ≡ ws
+  diff_back : diff_at with_update body ≡ ws
   unfolding record_of
-  diff-back =
-      ap words_of (block_in 16 with_update (body + 32) ((pre ++ mark ed 4) ++ id) (bytes_of_words ws) ((flat ns ++ (el ++ bytes_of 8 b)) ++ post) (simp append_assoc) (sym head-diff) (words-length ws))
-      ∙ words_back ws h.wide.change.two-words h.wide.change.low_word h.wide.change.high_word
+  diff_back =
+      ap words_of (block_in 16 with_update (body + 32) ((pre ++ mark ed 4) ++ id) (bytes_of_words ws) ((flat ns ++ (el ++ bytes_of 8 b)) ++ post) (simp append_assoc) (sym head_diff) (words-length ws))
+      ∙ words_back ws h.wide.change.two_words h.wide.change.low_word h.wide.change.high_word
 
-  count-back : count_of (diff_at with_update body) ≡ length ns
-  count-back = ap count_of diff-back ∙ sym h.counted
+  count_back : count_of (diff_at with_update body) ≡ length ns
+  count_back = ap count_of diff_back ∙ sym h.counted
 
-  nodes-back : nodes_from with_update (body + 48) (length ns) ≡ ns
+  nodes_back : nodes_from with_update (body + 48) (length ns) ≡ ns
   unfolding record_of
-  nodes-back =
-      nodes_in with_update (body + 48) ns (((pre ++ mark ed 4) ++ id) ++ bytes_of_words ws) ((el ++ bytes_of 8 b) ++ post) (simp append_assoc) (sym head-body) h.rows
+  nodes_back =
+      nodes_in with_update (body + 48) ns (((pre ++ mark ed 4) ++ id) ++ bytes_of_words ws) ((el ++ bytes_of 8 b) ++ post) (simp append_assoc) (sym head_body) h.rows
 
-  elided-back : block 8 with_update (body + 48 + 32 * length ns) ≡ el
+  elided_back : block 8 with_update (body + 48 + 32 * length ns) ≡ el
   unfolding record_of
-  elided-back =
-      block_in 8 with_update (body + 48 + 32 * length ns) ((((pre ++ mark ed 4) ++ id) ++ bytes_of_words ws) ++ flat ns) el (bytes_of 8 b ++ post) (simp append_assoc) (sym head-nodes) h.wide.elided-long
+  elided_back =
+      block_in 8 with_update (body + 48 + 32 * length ns) ((((pre ++ mark ed 4) ++ id) ++ bytes_of_words ws) ++ flat ns) el (bytes_of 8 b ++ post) (simp append_assoc) (sym head_nodes) h.wide.elided_long
 
-  bucket-back : le (block 8 with_update (body + 56 + 32 * length ns)) ≡ b
+  bucket_back : le (block 8 with_update (body + 56 + 32 * length ns)) ≡ b
   unfolding record_of
-  bucket-back =
-      ap le (block_in 8 with_update (body + 56 + 32 * length ns) (((((pre ++ mark ed 4) ++ id) ++ bytes_of_words ws) ++ flat ns) ++ el) (bytes_of 8 b) post (simp append_assoc) (sym head-elided) (bytes-length 8 b))
+  bucket_back =
+      ap le (block_in 8 with_update (body + 56 + 32 * length ns) (((((pre ++ mark ed 4) ++ id) ++ bytes_of_words ws) ++ flat ns) ++ el) (bytes_of 8 b) post (simp append_assoc) (sym head_elided) (bytes-length 8 b))
       ∙ le-bytes_of 8 b h.wide.bucket
 
   -- the entry out of its parts
@@ -204,15 +204,15 @@ module _ (ed : Edition) (pre post id ws : List ℕ) (ns : List (List ℕ)) (el :
       update (block 32 with_update body) (diff_at with_update body) (nodes_from with_update (body + 48) c)
       (block 8 with_update (body + 48 + 32 * c)) (le (block 8 with_update (body + 56 + 32 * c)))
 
-  update-back : update_of with_update body ≡ update id ws ns el b
+  update_back : update_of with_update body ≡ update id ws ns el b
   unfolding update_of
-  update-back =
-      ap parts count-back
-      ∙ (λ i. update (id-back i) (diff-back i) (nodes-back i) (elided-back i) (bucket-back i))
+  update_back =
+      ap parts count_back
+      ∙ (λ i. update (id_back i) (diff_back i) (nodes_back i) (elided_back i) (bucket_back i))
 
-  pub next-update : next_at ed with_update (length pre) ≡ next (update id ws ns el b) (length pre + update_size ed (length ns))
+  pub next_update : next_at ed with_update (length pre) ≡ next (update id ws ns el b) (length pre + update_size ed (length ns))
   unfolding next_at update_at record_of
-  next-update =
+  next_update =
       let at : ℕ = length pre in
       let p : ℕ = at + mark_size ed in
       let c : ℕ = count_of (diff_at with_update p) in
@@ -220,10 +220,10 @@ module _ (ed : Edition) (pre post id ws : List ℕ) (ns : List (List ℕ)) (el :
       let after : p + update_body (length ns) ≡ at + update_size ed (length ns) = omega arith in
       mark_in ed with_update pre 4 ((id ++ (bytes_of_words ws ++ (flat ns ++ (el ++ bytes_of 8 b)))) ++ post) (λ t. by_tag t with_update p) stopped (simp append_assoc)
       ∙ ap (λ (t : Bool). cond t (cond (reserved (diff_at with_update p)) (stopped 4) (cond (leb (p + update_body c) (length with_update)) whole (stopped 6))) (stopped 6))
-      (le-leb (p + 48) (length with_update) (omega (arith, update-log-length)))
-      ∙ ap (λ (t : Bool). cond t (stopped 4) (cond (leb (p + update_body c) (length with_update)) whole (stopped 6))) (ap reserved diff-back ∙ h.plain)
-      ∙ ap (λ (t : Bool). cond t whole (stopped 6)) (le-leb (p + update_body c) (length with_update) (omega (arith, update-log-length, count-back)))
-      ∙ ap₂ (λ (e : Entry) (k : ℕ). next e (p + update_body k)) update-back count-back
+      (le-leb (p + 48) (length with_update) (omega (arith, update_log-length)))
+      ∙ ap (λ (t : Bool). cond t (stopped 4) (cond (leb (p + update_body c) (length with_update)) whole (stopped 6))) (ap reserved diff_back ∙ h.plain)
+      ∙ ap (λ (t : Bool). cond t whole (stopped 6)) (le-leb (p + update_body c) (length with_update) (omega (arith, update_log-length, count_back)))
+      ∙ ap₂ (λ (e : Entry) (k : ℕ). next e (p + update_body k)) update_back count_back
       ∙ ap (next (update id ws ns el b)) after
 
 -- ---- any record
@@ -231,10 +231,10 @@ pub record-length : (ed : Edition) (e : Entry) → WellFormed e → 9 ≤ length
 record-length ed (clear b) h = omega (arith, clear-length ed b, mark_some ed)
 record-length ed (update id ws ns el b) h = omega (arith, update-length ed id ws ns el b h)
 
-pub next-record : (ed : Edition) (pre post : List ℕ) (e : Entry) → WellFormed e → next_at ed (pre ++ (record_of ed e ++ post)) (length pre) ≡ next e (length pre + length (record_of ed e))
-next-record ed pre post (clear b) h = next-clear ed pre post b h ∙ ap (λ (n : ℕ). next (clear b) (length pre + n)) (sym (clear-length ed b))
-next-record ed pre post (update id ws ns el b) h =
-    next-update ed pre post id ws ns el b h ∙ ap (λ (n : ℕ). next (update id ws ns el b) (length pre + n)) (sym (update-length ed id ws ns el b h))
+pub next_record : (ed : Edition) (pre post : List ℕ) (e : Entry) → WellFormed e → next_at ed (pre ++ (record_of ed e ++ post)) (length pre) ≡ next e (length pre + length (record_of ed e))
+next_record ed pre post (clear b) h = next_clear_lem ed pre post b h ∙ ap (λ (n : ℕ). next (clear b) (length pre + n)) (sym (clear-length ed b))
+next_record ed pre post (update id ws ns el b) h =
+    next_update ed pre post id ws ns el b h ∙ ap (λ (n : ℕ). next (update id ws ns el b) (length pre + n)) (sym (update-length ed id ws ns el b h))
 
 pub next_end : (ed : Edition) (pre post : List ℕ) → next_at ed (pre ++ (mark ed 2 ++ post)) (length pre) ≡ ended
 unfolding next_at

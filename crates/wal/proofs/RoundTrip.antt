@@ -18,15 +18,15 @@ use Rattle.page_diff.specs.Diff.{count_of, reserved}
 use Rattle.wal.specs.Log.{Entry, clear, update, mark, mark_size, seed_part, seed_size, record_of, records_of, start_record, start_size, clear_size, update_size, finished_length, end_record}
 use Rattle.wal.specs.Reader.{edition_at, marks_at, start_in, start_of, seed_of, Next, next_at, wanted, Reading, stop_at, and_then, read_on, read_in, read_by, read_after_start, read_log}
 use Rattle.wal.specs.Writer.{open_at, capacity, position, edition_of, if_open, if_room, begin_answer, clear_answer, update_answer, record_log, record_writer, finish_answer, finish_log}
-use Rattle.wal.specs.Run.{WideStart, WellFormed, Run, begun, with-clear, with-update, end_of, log_of}
+use Rattle.wal.specs.Run.{WideStart, WellFormed, Run, begun, with_clear_lem, with_update_lem, end_of, log_of}
 use Rattle.wal.specs.declared.AfterEnd.{AfterEnd}
 use Rattle.wal.specs.declared.AfterEnd.TheVariants.{Zeros, Tolerant}
 use Rattle.wal.specs.declared.Edition.{Edition}
 use Rattle.wal.specs.declared.Edition.TheVariants.{One, Two}
 use Rattle.wal.specs.declared.Start.{Start}
 use Rattle.wal.specs.declared.Writer.{Writer}
-use Rattle.wal.proofs.Endings.{log-agrees}
-use Rattle.wal.proofs.Records.{block_in, mark-length, mark_some, mark_small, clear-length, update-length, record-length, next-record, next_end}
+use Rattle.wal.proofs.Endings.{log_agrees}
+use Rattle.wal.proofs.Records.{block_in, mark-length, mark_some, mark_small, clear-length, update-length, record-length, next_record, next_end}
 
 -- every entry is one that a call can hand over
 pub data AllWellFormed : List Entry → Type 0 where
@@ -60,7 +60,7 @@ read_records ed (suc f) pre post (e ∷ es) (more h hs) l =
     let shift : log ≡ (pre ++ record_of ed e) ++ tail = split ∙ sym (append_assoc pre (record_of ed e) tail) in
     let here : length pre + length (record_of ed e) ≡ length (pre ++ record_of ed e) = sym (length-append pre (record_of ed e)) in
     let far : length (pre ++ record_of ed e) + length (records_of ed es) ≡ length pre + length (record_of ed e ++ records_of ed es) = omega (arith, length-append pre (record_of ed e), length-append (record_of ed e) (records_of ed es)) in
-    ap (λ (x : Next). read_on x (length pre) (λ p. read_in Tolerant ed f log p)) (ap (λ (x : List ℕ). next_at ed x (length pre)) split ∙ next-record ed pre tail e h)
+    ap (λ (x : Next). read_on x (length pre) (λ p. read_in Tolerant ed f log p)) (ap (λ (x : List ℕ). next_at ed x (length pre)) split ∙ next_record ed pre tail e h)
     ∙ ap (and_then e) (ap₂ (λ (x : List ℕ) (p : ℕ). read_in Tolerant ed f x p) shift here ∙ read_records ed f (pre ++ record_of ed e) post es hs (omega arith) ∙ ap (read_as es) far)
 
 -- ---- the widths of a start and of an end
@@ -69,7 +69,7 @@ seed-length start wide = go start.edition
   where
     go : (ed : Edition) → length (seed_part ed start.seed) ≡ seed_size ed
     go One = refl
-    go Two = wide.seed-long
+    go Two = wide.seed_long
 
 pub start-length : (start : Start) → WideStart start → length (start_record start) ≡ start_size start.edition
 start-length start wide =
@@ -105,15 +105,15 @@ module _ (start : Start) (rest : List ℕ) where
   abbrev started : List ℕ
   started = start_record start ++ rest
 
-  pub edition-told : edition_at (start_record start ++ rest) ≡ start.edition
-  edition-told =
+  pub edition_told : edition_at (start_record start ++ rest) ≡ start.edition
+  edition_told =
       ap edition_at (append_assoc (mark ed 1) (bytes_of 4 start.sync ++ seed_part ed start.seed) rest)
       ∙ edition_in ed ((bytes_of 4 start.sync ++ seed_part ed start.seed) ++ rest)
 
   module _ (wide : WideStart start) where
-    start-in : length started % 4096 ≡ 0 → start_in ed started ≡ given start.sync
+    start_in_lem : length started % 4096 ≡ 0 → start_in ed started ≡ given start.sync
     unfolding start_in
-    start-in pages =
+    start_in_lem pages =
         let after : List ℕ = (bytes_of 4 start.sync ++ seed_part ed start.seed) ++ rest in
         let split : started ≡ mark ed 1 ++ after = append_assoc (mark ed 1) (bytes_of 4 start.sync ++ seed_part ed start.seed) rest in
         let long : length started ≡ start_size ed + length rest = length-append (start_record start) rest ∙ ap (λ (n : ℕ). n + length rest) (start-length start wide) in
@@ -126,73 +126,73 @@ module _ (start : Start) (rest : List ℕ) where
         ∙ ap given number
 
     -- "gives the sync number"
-    pub start-told : length (start_record start ++ rest) % 4096 ≡ 0 → start_of (start_record start ++ rest) ≡ given start.sync
-    start-told pages = ap (λ (e : Edition). start_in e started) edition-told ∙ start-in pages
+    pub start_told : length (start_record start ++ rest) % 4096 ≡ 0 → start_of (start_record start ++ rest) ≡ given start.sync
+    start_told pages = ap (λ (e : Edition). start_in e started) edition_told ∙ start_in_lem pages
 
     -- the seed of edition two
-    pub seed-told : start.edition ≡ Two → seed_of (start_record start ++ rest) ≡ start.seed
+    pub seed_told : start.edition ≡ Two → seed_of (start_record start ++ rest) ≡ start.seed
     unfolding seed_of
-    seed-told two =
+    seed_told two =
         let split : started ≡ (mark Two 1 ++ bytes_of 4 start.sync) ++ (start.seed ++ rest) =
         ap (λ (e : Edition). (mark e 1 ++ (bytes_of 4 start.sync ++ seed_part e start.seed)) ++ rest) two ∙ simp append_assoc in
-        block_in 16 started 6 (mark Two 1 ++ bytes_of 4 start.sync) start.seed rest split refl wide.seed-long
+        block_in 16 started 6 (mark Two 1 ++ bytes_of 4 start.sync) start.seed rest split refl wide.seed_long
 
 -- ---- a whole log
 module _ (start : Start) (es : List Entry) where
-  abbrev its-edition : Edition
-  its-edition = start.edition
+  abbrev its_edition : Edition
+  its_edition = start.edition
 
-  abbrev after-start : List ℕ
-  after-start = records_of its-edition es ++ end_record its-edition (end_of start es)
+  abbrev after_start_lem : List ℕ
+  after_start_lem = records_of its_edition es ++ end_record its_edition (end_of start es)
 
-  pub edition-back : edition_at (log_of start es) ≡ start.edition
-  edition-back = edition-told start after-start
+  pub edition_back : edition_at (log_of start es) ≡ start.edition
+  edition_back = edition_told start after_start_lem
 
   module _ (wide : WideStart start) where
     pub log-length : length (log_of start es) ≡ finished_length start.edition (end_of start es)
     log-length =
         omega (
           arith,
-          length-append (start_record start) after-start,
-          length-append (records_of its-edition es) (end_record its-edition (end_of start es)),
+          length-append (start_record start) after_start_lem,
+          length-append (records_of its_edition es) (end_record its_edition (end_of start es)),
           start-length start wide,
-          end-length its-edition (end_of start es),
+          end-length its_edition (end_of start es),
         )
 
     pub start_back : start_of (log_of start es) ≡ given start.sync
-    start_back = start-told start after-start wide (ap (λ (n : ℕ). n % 4096) log-length ∙ mul-mod_left ((end_of start es + mark_size its-edition + 4095) / 4096) 4096)
+    start_back = start_told start after_start_lem wide (ap (λ (n : ℕ). n % 4096) log-length ∙ mul-mod_left ((end_of start es + mark_size its_edition + 4095) / 4096) 4096)
 
-    pub seed-back : start.edition ≡ Two → seed_of (log_of start es) ≡ start.seed
-    seed-back two = seed-told start after-start wide two
+    pub seed_back : start.edition ≡ Two → seed_of (log_of start es) ≡ start.seed
+    seed_back two = seed_told start after_start_lem wide two
 
     -- "A finished log reads back as exactly the entries written"
-    read_back : AllWellFormed es → read_after_start Tolerant its-edition (log_of start es) ≡ record { entries = es; at = end_of start es; stop = given tt }
+    read_back : AllWellFormed es → read_after_start Tolerant its_edition (log_of start es) ≡ record { entries = es; at = end_of start es; stop = given tt }
     read_back hs =
         let pos : ℕ = end_of start es in
-        let zeros : List ℕ = replicate (finished_length its-edition pos - (pos + mark_size its-edition)) 0 in
-        ap (λ (p : ℕ). read_in Tolerant its-edition (length (log_of start es)) (log_of start es) p) (sym (start-length start wide))
-        ∙ read_records its-edition (length (log_of start es)) (start_record start) zeros es hs (omega (arith, records-length its-edition es hs, log-length))
-        ∙ ap (λ (n : ℕ). read_as es (n + length (records_of its-edition es))) (start-length start wide)
+        let zeros : List ℕ = replicate (finished_length its_edition pos - (pos + mark_size its_edition)) 0 in
+        ap (λ (p : ℕ). read_in Tolerant its_edition (length (log_of start es)) (log_of start es) p) (sym (start-length start wide))
+        ∙ read_records its_edition (length (log_of start es)) (start_record start) zeros es hs (omega (arith, records-length its_edition es hs, log-length))
+        ∙ ap (λ (n : ℕ). read_as es (n + length (records_of its_edition es))) (start-length start wide)
 
     -- by a tolerant reader, and by one that wants zeros after end, since zeros stand there
-    tolerant-back : AllWellFormed es → read_log Tolerant (log_of start es) ≡ record { entries = es; at = end_of start es; stop = given tt }
-    tolerant-back hs = ap (λ (e : Edition). read_after_start Tolerant e (log_of start es)) edition-back ∙ read_back hs
+    tolerant_back : AllWellFormed es → read_log Tolerant (log_of start es) ≡ record { entries = es; at = end_of start es; stop = given tt }
+    tolerant_back hs = ap (λ (e : Edition). read_after_start Tolerant e (log_of start es)) edition_back ∙ read_back hs
 
-    zeros_follow : (rule : AfterEnd) → wanted rule (log_of start es) (end_of start es + mark_size its-edition) ≡ true
+    zeros_follow : (rule : AfterEnd) → wanted rule (log_of start es) (end_of start es + mark_size its_edition) ≡ true
     zeros_follow Tolerant = refl
     zeros_follow Zeros =
         let pos : ℕ = end_of start es in
-        let zeros : List ℕ = replicate (finished_length its-edition pos - (pos + mark_size its-edition)) 0 in
-        let before : List ℕ = start_record start ++ (records_of its-edition es ++ mark its-edition 2) in
+        let zeros : List ℕ = replicate (finished_length its_edition pos - (pos + mark_size its_edition)) 0 in
+        let before : List ℕ = start_record start ++ (records_of its_edition es ++ mark its_edition 2) in
         let split : log_of start es ≡ before ++ zeros = simp append_assoc in
-        let long : length before ≡ pos + mark_size its-edition =
-        omega (arith, length-append (start_record start) (records_of its-edition es ++ mark its-edition 2), start-length start wide, length-append (records_of its-edition es) (mark its-edition 2), mark-length its-edition 2) in
-        ap all_zero (ap (drop (pos + mark_size its-edition)) split ∙ drop_at before zeros (pos + mark_size its-edition) long) ∙ zeros-replicate (finished_length its-edition pos - (pos + mark_size its-edition))
+        let long : length before ≡ pos + mark_size its_edition =
+        omega (arith, length-append (start_record start) (records_of its_edition es ++ mark its_edition 2), start-length start wide, length-append (records_of its_edition es) (mark its_edition 2), mark-length its_edition 2) in
+        ap all_zero (ap (drop (pos + mark_size its_edition)) split ∙ drop_at before zeros (pos + mark_size its_edition) long) ∙ zeros-replicate (finished_length its_edition pos - (pos + mark_size its_edition))
 
-    pub entries-back : (rule : AfterEnd) → AllWellFormed es → read_log rule (log_of start es) ≡ record { entries = es; at = end_of start es; stop = given tt }
-    entries-back rule hs =
-        let t = tolerant-back hs in
-        log-agrees rule (log_of start es) (ap₂ (λ (r : Reading) (e : Edition). wanted rule (log_of start es) (r.at + mark_size e)) t edition-back ∙ zeros_follow rule) ∙ t
+    pub entries_back : (rule : AfterEnd) → AllWellFormed es → read_log rule (log_of start es) ≡ record { entries = es; at = end_of start es; stop = given tt }
+    entries_back rule hs =
+        let t = tolerant_back hs in
+        log_agrees rule (log_of start es) (ap₂ (λ (r : Reading) (e : Edition). wanted rule (log_of start es) (r.at + mark_size e)) t edition_back ∙ zeros_follow rule) ∙ t
 
 -- ---- runs of accepted calls
 pub records-snoc : (ed : Edition) (es : List Entry) (e : Entry) → records_of ed (es ++ (e ∷ [])) ≡ records_of ed es ++ record_of ed e
@@ -217,11 +217,11 @@ room_held : {A : Type 0} (t : Bool) (a : A) (n : ℕ) → accepted (cond t (give
 room_held true a n e = refl
 room_held false a n e = absurd (true≢false (sym e))
 
-capacity-most : (log : List ℕ) → capacity log ≤ length log
-capacity-most log = omega arith
+capacity_most : (log : List ℕ) → capacity log ≤ length log
+capacity_most log = omega arith
 
-pub same-capacity : (a b : List ℕ) → length a ≡ length b → capacity a ≡ capacity b
-same-capacity a b e = ap (λ (n : ℕ). n / 4096 * 4096) e
+pub same_capacity : (a b : List ℕ) → length a ≡ length b → capacity a ≡ capacity b
+same_capacity a b e = ap (λ (n : ℕ). n / 4096 * 4096) e
 
 -- one record more
 module _ (log₀ : List ℕ) (start : Start) (log : List ℕ) (es : List Entry) (e : Entry) (h : WellFormed e) where
@@ -231,9 +231,9 @@ module _ (log₀ : List ℕ) (start : Start) (log : List ℕ) (es : List Entry) 
   grown : (pos : ℕ) → WideStart start → AllWellFormed es → pos ≡ end_of start es → log ≡ put log₀ 0 (start_record start ++ records_of start.edition es)
       → pos + length (record_of start.edition e) + mark_size start.edition ≤ capacity log
       → Made log₀ start (open_at start.edition (pos + length (record_of start.edition e))) (put log pos (record_of start.edition e)) (es ++ (e ∷ []))
-  grown pos wide hs at-end made fits =
+  grown pos wide hs at_end_lem made fits =
       let long : length log ≡ length log₀ = ap length made ∙ put-length log₀ 0 (start_record start ++ records_of its es) in
-      let done : length (start_record start ++ records_of its es) ≡ pos = length-append (start_record start) (records_of its es) ∙ ap (λ (n : ℕ). n + length (records_of its es)) (start-length start wide) ∙ sym at-end in
+      let done : length (start_record start ++ records_of its es) ≡ pos = length-append (start_record start) (records_of its es) ∙ ap (λ (n : ℕ). n + length (records_of its es)) (start-length start wide) ∙ sym at_end_lem in
       let count : length (records_of its (es ++ (e ∷ []))) ≡ length (records_of its es) + length (record_of its e) = ap length (records-snoc its es e) ∙ length-append (records_of its es) (record_of its e) in
       let place : pos ≡ 0 + length (start_record start ++ records_of its es) = omega arith in
       record {
@@ -242,9 +242,9 @@ module _ (log₀ : List ℕ) (start : Start) (log : List ℕ) (es : List Entry) 
         is_open = ap (open_at its) (omega arith);
         same_log =
             ap₂ (λ (l : List ℕ) (p : ℕ). put l p (record_of its e)) made place
-            ∙ put-append log₀ 0 (start_record start ++ records_of its es) (record_of its e) (omega (arith, capacity-most log))
+            ∙ put-append log₀ 0 (start_record start ++ records_of its es) (record_of its e) (omega (arith, capacity_most log))
             ∙ ap (put log₀ 0) (append_assoc (start_record start) (records_of its es) (record_of its e) ∙ ap (λ (l : List ℕ). start_record start ++ l) (sym (records-snoc its es e)));
-        room = omega (arith, same-capacity log log₀ long);
+        room = omega (arith, same_capacity log log₀ long);
       }
 
 -- a record that was accepted had room, also for the end after it
@@ -301,9 +301,9 @@ run_made log₀ start (begun w wide ok) =
       same_log = ap (λ (t : Bool). cond t (put log₀ 0 (start_record start)) log₀) ok ∙ ap (put log₀ 0) (sym (append-nil (start_record start)));
       room = omega (arith, leb-true 4096 (capacity log₀) fits, start_small start.edition);
     }
-run_made log₀ start (with-clear w log es b run small ok) =
+run_made log₀ start (with_clear_lem w log es b run small ok) =
     record_step log₀ start w log es (clear b) small (clear_answer log) clear_size (λ ed. sym (clear-length ed b)) (λ ed. clear_room ed log) (run_made log₀ start run) ok
-run_made log₀ start (with-update w log es id ws ns el b run h ok) =
+run_made log₀ start (with_update_lem w log es id ws ns el b run h ok) =
     record_step log₀ start w log es (update id ws ns el b) h (λ v. update_answer log v ws (length ns)) (λ ed. update_size ed (length ns)) (λ ed. sym (update-length ed id ws ns el b h))
     (λ ed. update_room ed log ws (length ns)) (run_made log₀ start run) ok
 
@@ -319,25 +319,25 @@ module _ (log₀ : List ℕ) (start : Start) (w : Writer) (log : List ℕ) (es :
   run_length = ap length (run_made log₀ start run).same_log ∙ put-length log₀ 0 (start_record start ++ records_of of_log es)
 
   -- "so finish fits the same slice": it is accepted, and answers the length of the log
-  pub finish-fits : finish_answer log w ≡ given (finished_length start.edition (end_of start es))
+  pub finish_fits : finish_answer log w ≡ given (finished_length start.edition (end_of start es))
   unfolding finish_answer
-  finish-fits =
+  finish_fits =
       let made = run_made log₀ start run in
-      let fits : end_at + 0 + mark_size of_log ≤ capacity log = omega (arith, made.room, same-capacity log log₀ run_length) in
+      let fits : end_at + 0 + mark_size of_log ≤ capacity log = omega (arith, made.room, same_capacity log log₀ run_length) in
       ap (λ (v : Writer). if_open v (if_room log v 0 (given (finished_length (edition_of v) (position v))))) made.is_open
       ∙ ap (λ (t : Bool). cond t (given (finished_length of_log end_at)) (refused 13)) (le-leb (end_at + 0 + mark_size of_log) (capacity log) fits)
 
   -- the finished log starts the slice: it is the log of the entries written
-  pub finished-log : take (finished_length start.edition (end_of start es)) (finish_log log w) ≡ log_of start es
-  finished-log =
+  pub finished_log : take (finished_length start.edition (end_of start es)) (finish_log log w) ≡ log_of start es
+  finished_log =
       let made = run_made log₀ start run in
       let whole : List ℕ = start_record start ++ records_of of_log es in
       let done : length whole ≡ end_at = length-append (start_record start) (records_of of_log es) ∙ ap (λ (n : ℕ). n + length (records_of of_log es)) (start-length start made.wide) in
       let place : end_at ≡ 0 + length whole = omega arith in
       let parts : length (whole ++ end_record of_log end_at) ≡ finished_length of_log end_at = omega (arith, length-append whole (end_record of_log end_at), end-length of_log end_at) in
-      let fits : finished_length of_log end_at ≤ length log₀ = omega (arith, made.room, capacity-most log₀) in
+      let fits : finished_length of_log end_at ≤ length log₀ = omega (arith, made.room, capacity_most log₀) in
       let same : finish_log log w ≡ put log₀ 0 (whole ++ end_record of_log end_at) =
-      ap (λ (a : Answer ℕ). cond (accepted a) (put log (position w) (end_record (edition_of w) (position w))) log) finish-fits
+      ap (λ (a : Answer ℕ). cond (accepted a) (put log (position w) (end_record (edition_of w) (position w))) log) finish_fits
       ∙ ap₂ (λ (l : List ℕ) (v : Writer). put l (position v) (end_record (edition_of v) (position v))) made.same_log made.is_open
       ∙ ap (λ (p : ℕ). put (put log₀ 0 whole) p (end_record of_log end_at)) place ∙ put-append log₀ 0 whole (end_record of_log end_at) (omega (arith, parts, length-append whole (end_record of_log end_at))) in
       ap (take (finished_length of_log end_at)) (same ∙ put_fits log₀ 0 (whole ++ end_record of_log end_at) (omega arith))
@@ -345,8 +345,8 @@ module _ (log₀ : List ℕ) (start : Start) (w : Writer) (log : List ℕ) (es :
       ∙ append_assoc (start_record start) (records_of of_log es) (end_record of_log end_at)
 
   -- the round trip
-  pub round-trip-start : start_of (take (finished_length start.edition (end_of start es)) (finish_log log w)) ≡ given start.sync
-  round-trip-start = ap start_of finished-log ∙ start_back start es (run_made log₀ start run).wide
+  pub round_trip_start : start_of (take (finished_length start.edition (end_of start es)) (finish_log log w)) ≡ given start.sync
+  round_trip_start = ap start_of finished_log ∙ start_back start es (run_made log₀ start run).wide
 
   pub round_trip : (rule : AfterEnd) → read_log rule (take (finished_length start.edition (end_of start es)) (finish_log log w)) ≡ record { entries = es; at = end_of start es; stop = given tt }
-  round_trip rule = ap (read_log rule) finished-log ∙ entries-back start es (run_made log₀ start run).wide rule (run_made log₀ start run).all
+  round_trip rule = ap (read_log rule) finished_log ∙ entries_back start es (run_made log₀ start run).wide rule (run_made log₀ start run).all

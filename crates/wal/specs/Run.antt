@@ -10,15 +10,15 @@ use Rattle.wal.specs.declared.Writer.{Writer}
 
 -- what the types of a change's id and diff say: their widths
 pub record WideChange (id ws : List ℕ) : Type 0 where
-  pub id-long : length id ≡ 32
-  pub two-words : length ws ≡ 2
+  pub id_long : length id ≡ 32
+  pub two_words : length ws ≡ 2
   pub low_word : get_or ws 0 0 < 2 ^ 64
   pub high_word : get_or ws 1 0 < 2 ^ 64
 
 -- and those of an update's parts
 pub record Wide (id ws elided : List ℕ) (b : ℕ) : Type 0 where
   pub change : WideChange id ws
-  pub elided-long : length elided ≡ 8
+  pub elided_long : length elided ≡ 8
   pub bucket : b < 2 ^ 64
 
 -- and of its nodes: the first n rows of a table are nodes
@@ -40,14 +40,14 @@ WellFormed (update id ws ns elided b) = Handed id ws ns elided b
 -- what the types of a start say: its widths
 pub record WideStart (start : Start) : Type 0 where
   pub number : start.sync < 2 ^ 32
-  pub seed-long : length start.seed ≡ 16
+  pub seed_long : length start.seed ≡ 16
 
 -- accepted calls, one after the other, on a slice that held log₀: the state and the log they leave, and the entries they wrote
 pub data Run (log₀ : List ℕ) (start : Start) : Writer → List ℕ → List Entry → Type 0 where
   begun : (w : Writer) → WideStart start → accepted (begin_answer log₀) ≡ true → Run log₀ start (begin_writer log₀ w start.edition) (begin_log log₀ start) []
-  with-clear : (w : Writer) (log : List ℕ) (es : List Entry) (b : ℕ) → Run log₀ start w log es → b < 2 ^ 64 → accepted (clear_answer log w) ≡ true
+  with_clear_lem : (w : Writer) (log : List ℕ) (es : List Entry) (b : ℕ) → Run log₀ start w log es → b < 2 ^ 64 → accepted (clear_answer log w) ≡ true
       → Run log₀ start (record_writer (clear_answer log w) w (clear_size (edition_of w))) (record_log (clear_answer log w) log w (record_of (edition_of w) (clear b))) (es ++ (clear b ∷ []))
-  with-update : (w : Writer) (log : List ℕ) (es : List Entry) (id ws : List ℕ) (ns : List (List ℕ)) (elided : List ℕ) (b : ℕ)
+  with_update_lem : (w : Writer) (log : List ℕ) (es : List Entry) (id ws : List ℕ) (ns : List (List ℕ)) (elided : List ℕ) (b : ℕ)
       → Run log₀ start w log es → Handed id ws ns elided b → accepted (update_answer log w ws (length ns)) ≡ true
       → Run log₀ start (record_writer (update_answer log w ws (length ns)) w (update_size (edition_of w) (length ns)))
       (record_log (update_answer log w ws (length ns)) log w (record_of (edition_of w) (update id ws ns elided b)))

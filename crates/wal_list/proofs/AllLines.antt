@@ -21,7 +21,7 @@ use Rattle.wal_read.proofs.ReadLaws.{moves, clear_moves, update_moves, read_entr
 use Rattle.wal_list.specs.Lines.{ascii, decimal, start_line, entry_line, refused_line, size_of, entry_lines, stop_line, reading_lines, started_lines, lines_of}
 use Rattle.wal_list.specs.Shown.{Shown, more, last, started, first_shown, next_shown, shown_at, text_of}
 use Rattle.wal_list.proofs.Decimal.{decimal-length}
-use Rattle.wal_list.proofs.ShownLaws.{first-long, first_none, first-start, shown-next}
+use Rattle.wal_list.proofs.ShownLaws.{first_long, first_none, first_start, shown_next}
 
 -- the lines from a position on, one after the other, by a bound on how many follow
 abbrev pub and_on : Shown → (ℕ → List ℕ) → List ℕ
@@ -58,7 +58,7 @@ unfolding lines_in
 lines_from zero log at n h =
     let ed = edition_at log in
     let e = next_past ed log at (omega arith) in
-    ap text_of (shown-next log at (stopped 6) n e) ∙ reading_stop ed at (refused 6) ∙ sym (ap (reading_lines ed at) (read_stop Tolerant ed log at 6 e))
+    ap text_of (shown_next log at (stopped 6) n e) ∙ reading_stop ed at (refused 6) ∙ sym (ap (reading_lines ed at) (read_stop Tolerant ed log at 6 e))
 lines_from (suc f) log at n h = go (next_at (edition_at log) log at) refl (lines_from f log)
   where
     ed : Edition
@@ -67,12 +67,12 @@ lines_from (suc f) log at n h = go (next_at (edition_at log) log at) refl (lines
     go : (x : Next) → next_at ed log at ≡ x → ((p : ℕ) → (p ≡ 0 → ⊥) → length log ≤ p + f → lines_in f log p ≡ reading_lines ed p (read_from Tolerant ed log p)) → and_on (shown_at log at) (lines_in f log) ≡ reading_lines ed at (read_from Tolerant ed log at)
     go (next e p) i r =
         let m = moves Tolerant ed log at e p i in
-        ap (λ (s : Shown). and_on s (lines_in f log)) (shown-next log at (next e p) n i)
+        ap (λ (s : Shown). and_on s (lines_in f log)) (shown_next log at (next e p) n i)
         ∙ ap (λ (t : List ℕ). entry_line at e ++ t) (r p (λ z. omega arith) (omega arith))
         ∙ reading_entry ed at p e (read_from Tolerant ed log p) (size_moves ed log at e p i)
         ∙ sym (ap (reading_lines ed at) (read_entry_lem Tolerant ed log at e p i))
-    go ended i r = ap (λ (s : Shown). and_on s (lines_in f log)) (shown-next log at ended n i) ∙ reading_stop ed at (given tt) ∙ sym (ap (reading_lines ed at) (read_end Tolerant ed log at i))
-    go (stopped k) i r = ap (λ (s : Shown). and_on s (lines_in f log)) (shown-next log at (stopped k) n i) ∙ reading_stop ed at (refused k) ∙ sym (ap (reading_lines ed at) (read_stop Tolerant ed log at k i))
+    go ended i r = ap (λ (s : Shown). and_on s (lines_in f log)) (shown_next log at ended n i) ∙ reading_stop ed at (given tt) ∙ sym (ap (reading_lines ed at) (read_end Tolerant ed log at i))
+    go (stopped k) i r = ap (λ (s : Shown). and_on s (lines_in f log)) (shown_next log at (stopped k) n i) ∙ reading_stop ed at (refused k) ∙ sym (ap (reading_lines ed at) (read_stop Tolerant ed log at k i))
 
 -- the definition, test by test
 module _ (log : List ℕ) where
@@ -94,16 +94,16 @@ unfolding lines_in
 all_lines f log h = go (dec_le (length log) 65536) (dec_le (length log) 0) (start_of log) refl
   where
     go : Dec (length log ≤ 65536) → Dec (length log ≤ 0) → (a : Answer ℕ) → start_of log ≡ a → and_on (first_shown log) (lines_in f log) ≡ lines_of log
-    go (no p) d a s = ap (λ (x : Shown). and_on x (lines_in f log)) (first-long log (lt_of_not-le p)) ∙ sym (lines_long log (lt_of_not-le p))
+    go (no p) d a s = ap (λ (x : Shown). and_on x (lines_in f log)) (first_long log (lt_of_not-le p)) ∙ sym (lines_long log (lt_of_not-le p))
     go (yes p) (yes d) a s = ap (λ (x : Shown). and_on x (lines_in f log)) (first_none log (omega arith)) ∙ sym (lines_none log (omega arith))
     go (yes p) (no d) (given sync) s =
         let some : length log ≡ 0 → ⊥ = λ e. omega arith in
-        ap (λ (x : Shown). and_on x (lines_in f log)) (first-start log p some ∙ ap (started (edition_at log)) s)
+        ap (λ (x : Shown). and_on x (lines_in f log)) (first_start log p some ∙ ap (started (edition_at log)) s)
         ∙ ap (λ (t : List ℕ). start_line sync ++ t) (lines_from f log (start_size (edition_at log)) (λ e. omega arith) (omega arith))
         ∙ sym (lines_start log p some ∙ ap (λ (a : Answer ℕ). started_lines a log) s)
     go (yes p) (no d) (refused k) s =
         let some : length log ≡ 0 → ⊥ = λ e. omega arith in
-        ap (λ (x : Shown). and_on x (lines_in f log)) (first-start log p some ∙ ap (started (edition_at log)) s) ∙ sym (lines_start log p some ∙ ap (λ (a : Answer ℕ). started_lines a log) s)
+        ap (λ (x : Shown). and_on x (lines_in f log)) (first_start log p some ∙ ap (started (edition_at log)) s) ∙ sym (lines_start log p some ∙ ap (λ (a : Answer ℕ). started_lines a log) s)
 
 -- ---- no line is longer than 80 bytes
 pub short_field : (at n : ℕ) (w : List ℕ) → length w ≤ 9 → length (decimal at ++ w ++ decimal n ++ ascii "\n") ≤ 80
@@ -132,9 +132,9 @@ short_next (next e p) at = short_entry at e
 short_next ended at = omega (arith, decimal-length at, length-append (decimal at) (ascii " end\n"))
 short_next (stopped k) at = short_field at k (ascii " refused ") (omega arith)
 
-short-started : (ed : Edition) (a : Answer ℕ) → length (text_of (started ed a)) ≤ 80
-short-started ed (given sync) = short_field 0 sync (ascii " start ") (omega arith)
-short-started ed (refused k) = short_field 0 k (ascii " refused ") (omega arith)
+short_started : (ed : Edition) (a : Answer ℕ) → length (text_of (started ed a)) ≤ 80
+short_started ed (given sync) = short_field 0 sync (ascii " start ") (omega arith)
+short_started ed (refused k) = short_field 0 k (ascii " refused ") (omega arith)
 
 short_first : (log : List ℕ) → length (text_of (first_shown log)) ≤ 80
 unfolding first_shown
@@ -143,7 +143,7 @@ short_first log = go (leb (length log) 65536) (eqb (length log) 0)
     go : (a b : Bool) → length (text_of (cond a (cond b (last (ascii "empty\n")) (started (edition_at log) (start_of log))) (last (refused_line 0 2)))) ≤ 80
     go false b = short_field 0 2 (ascii " refused ") (omega arith)
     go true true = omega arith
-    go true false = short-started (edition_at log) (start_of log)
+    go true false = short_started (edition_at log) (start_of log)
 
 pub text_short : (log : List ℕ) (at : ℕ) → length (text_of (shown_at log at)) ≤ 80
 text_short log at = go (eqb at 0)

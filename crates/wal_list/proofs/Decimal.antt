@@ -23,17 +23,17 @@ unfolding digits_in
 digits_large f n h = ap (λ (b : Bool). cond b ((48 + n) ∷ []) (digits_in f (n / 10) ++ ((48 + n % 10) ∷ []))) (le-ltb n 10 h)
 
 -- ---- length
-digits-most : (f n : ℕ) → length (digits_in f n) ≤ f
+digits_most : (f n : ℕ) → length (digits_in f n) ≤ f
 unfolding digits_in
-digits-most zero n = omega arith
-digits-most (suc f) n = go (dec_lt n 10) (digits-most f (n / 10))
+digits_most zero n = omega arith
+digits_most (suc f) n = go (dec_lt n 10) (digits_most f (n / 10))
   where
     go : Dec (n < 10) → length (digits_in f (n / 10)) ≤ f → length (digits_in (suc f) n) ≤ suc f
     go (yes p) r = omega (arith, ap length (digits_small f n p))
     go (no p) r = omega (arith, ap length (digits_large f n (omega arith)), length-append (digits_in f (n / 10)) ((48 + n % 10) ∷ []))
 
 pub decimal-length : (n : ℕ) → length (decimal n) ≤ 20
-decimal-length n = digits-most 20 n
+decimal-length n = digits_most 20 n
 
 -- as many as the number has, where that is less than the bound
 digits_few : (f k n : ℕ) → n < 10 ^ suc k → length (digits_in f n) ≤ suc k

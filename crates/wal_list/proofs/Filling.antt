@@ -14,7 +14,7 @@ use types.Run.{OneOf}
 use denote.Enum.Declared.{tag_of}
 use Rattle.answers.specs.Answers.{given, refused}
 use Rattle.answers.specs.Refusals.{number_of}
-use Rattle.answers.proofs.Laws.{given-refused, given-one}
+use Rattle.answers.proofs.Laws.{given_refused, given_one}
 use Rattle.blocks.specs.Blocks.{put}
 use Rattle.blocks.proofs.Laws.{put_fits, put-length}
 use Rattle.wal_list.specs.Lines.{most, lines_of}
@@ -23,7 +23,7 @@ use Rattle.wal_list.specs.declared.Line.{Line}
 use Rattle.wal_list.specs.declared.Line.TheVariants as line
 use Rattle.wal_list.specs.contracts.Line as LineT
 use Rattle.wal_list.proofs.Writing.{Written, written_on, part-put}
-use Rattle.wal_list.proofs.ShownLaws.{room-answer, room_after}
+use Rattle.wal_list.proofs.ShownLaws.{room_answer, room_after}
 use Rattle.wal_list.proofs.AllLines.{and_on, lines_in, all_lines, text_short, Leads, shown_leads}
 use Rattle.wal_list.proofs.Fits.{lines_fit}
 
@@ -36,47 +36,47 @@ module _ (log out : List ℕ) where
   lines_left h = (simp (lt-leb lines_size (length out) h), simp (lt-leb lines_size (length out) h))
 
   -- so what a call answers is within the memory that it leaves
-  pub lines-within : (m : List ℕ) (n : ℕ) → given n ≡ lines_answer out log → m ≡ lines_after out log → n ≤ length m
-  lines-within m n a b = go (dec_le lines_size (length out))
+  pub lines_within : (m : List ℕ) (n : ℕ) → given n ≡ lines_answer out log → m ≡ lines_after out log → n ≤ length m
+  lines_within m n a b = go (dec_le lines_size (length out))
     where
       go : Dec (lines_size ≤ length out) → n ≤ length m
       go (yes p) =
           let e : given n ≡ given (length (lines_of log)) = simp (le-leb lines_size (length out) p) at a in
           let f : m ≡ put out 0 (lines_of log) = simp (le-leb lines_size (length out) p) at b in
-          omega (arith, given-one n (length (lines_of log)) e, lines_fit log, ap length f, put-length out 0 (lines_of log))
-      go (no p) = absurd (given-refused n 2 (simp (lt-leb lines_size (length out) (lt_of_not-le p)) at a))
+          omega (arith, given_one n (length (lines_of log)) e, lines_fit log, ap length f, put-length out 0 (lines_of log))
+      go (no p) = absurd (given_refused n 2 (simp (lt-leb lines_size (length out) (lt_of_not-le p)) at a))
 
 -- ---- which line was shown, by what a call with room says
 module _ (l : List ℕ) (s : Shown) (room : 80 ≤ length l) where
   pub told_over : (n : ℕ) → given (over n) ≡ line_answer l s → (s ≡ last (text_of s)) × (n ≡ length (text_of s))
-  told_over n h = go s (h ∙ sym (room-answer l s room))
+  told_over n h = go s (h ∙ sym (room_answer l s room))
     where
       go : (s : Shown) → given (over n) ≡ given (said_of s) → (s ≡ last (text_of s)) × (n ≡ length (text_of s))
       go (more t p) e = let z : ◌≡◌ {A = ℕ} 0 1 = cc in absurd (omega arith)
       go (last t) e = (refl, cc)
 
-  pub told-on : (n p : ℕ) → given (on n p) ≡ line_answer l s → (s ≡ more (text_of s) p) × (n ≡ length (text_of s))
-  told-on n p h = go s (h ∙ sym (room-answer l s room))
+  pub told_on : (n p : ℕ) → given (on n p) ≡ line_answer l s → (s ≡ more (text_of s) p) × (n ≡ length (text_of s))
+  told_on n p h = go s (h ∙ sym (room_answer l s room))
     where
       go : (s : Shown) → given (on n p) ≡ given (said_of s) → (s ≡ more (text_of s) p) × (n ≡ length (text_of s))
       go (more t q) e = let f : q ≡ p = cc in (ap (more t) f, cc)
       go (last t) e = let z : ◌≡◌ {A = ℕ} 0 1 = cc in absurd (omega arith)
 
   -- there is one
-  pub told-one : (x : Line) → OneOf (0 ∷ 2 ∷ []) (tag_of LineT.the_type x) → OneOf (1 ∷ 2 ∷ []) (tag_of LineT.the_type x) → line_said x ≡ line_answer l s → ⊥
-  told-one (line.More n p) x y h = ⊎_elim (λ (e : 0 ≡ 1). omega arith) (λ (e : 0 ≡ 2). omega arith) y
-  told-one (line.Last n) x y h = ⊎_elim (λ (e : 1 ≡ 0). omega arith) (λ (e : 1 ≡ 2). omega arith) x
-  told-one (line.Refused r) x y h = given-refused (said_of s) (number_of r) (sym (h ∙ sym (room-answer l s room)))
+  pub told_one : (x : Line) → OneOf (0 ∷ 2 ∷ []) (tag_of LineT.the_type x) → OneOf (1 ∷ 2 ∷ []) (tag_of LineT.the_type x) → line_said x ≡ line_answer l s → ⊥
+  told_one (line.More n p) x y h = ⊎_elim (λ (e : 0 ≡ 1). omega arith) (λ (e : 0 ≡ 2). omega arith) y
+  told_one (line.Last n) x y h = ⊎_elim (λ (e : 1 ≡ 0). omega arith) (λ (e : 1 ≡ 2). omega arith) x
+  told_one (line.Refused r) x y h = given_refused (said_of s) (number_of r) (sym (h ∙ sym (room_answer l s room)))
 
 -- ---- what is left, by the line that is next
 module _ (log : List ℕ) (at b : ℕ) (t : List ℕ) where
-  left-last : shown_at log at ≡ last t → lines_in (suc b) log at ≡ t
+  left_last : shown_at log at ≡ last t → lines_in (suc b) log at ≡ t
   unfolding lines_in
-  left-last h = ap (λ (s : Shown). and_on s (lines_in b log)) h
+  left_last h = ap (λ (s : Shown). and_on s (lines_in b log)) h
 
-  left-more : (p : ℕ) → shown_at log at ≡ more t p → lines_in (suc b) log at ≡ t ++ lines_in b log p
+  left_more : (p : ℕ) → shown_at log at ≡ more t p → lines_in (suc b) log at ≡ t ++ lines_in b log p
   unfolding lines_in
-  left-more p h = ap (λ (s : Shown). and_on s (lines_in b log)) h
+  left_more p h = ap (λ (s : Shown). and_on s (lines_in b log)) h
 
 -- ---- at the head of a turn; `bound` is one on how many lines follow
 pub record Filled (log out₀ out : List ℕ) (done at : ℕ) : Type 0 where
@@ -90,22 +90,22 @@ pub filled_start : (log out : List ℕ) → Filled log out out 0 0
 filled_start log out = record { lines = []; bound = length log; written = (sym (put_fits out 0 [] (omega arith)), refl); left = all_lines (length log) log (omega arith); enough = omega arith }
 
 module _ (log out₀ out : List ℕ) (done at : ℕ) (room : lines_size ≤ length out₀) (f : Filled log out₀ out done at) where
-  pub same-long : length out ≡ length out₀
-  same-long = ap length f.written.0 ∙ put-length out₀ 0 f.lines
+  pub same_long : length out ≡ length out₀
+  same_long = ap length f.written.0 ∙ put-length out₀ 0 f.lines
 
   -- a line fits what is not filled
-  pub done-few : done ≤ 4 * most + 80
-  done-few = omega (arith, f.written.1, length-append f.lines (lines_in (suc f.bound) log at), ap length f.left, lines_fit log)
+  pub done_few : done ≤ 4 * most + 80
+  done_few = omega (arith, f.written.1, length-append f.lines (lines_in (suc f.bound) log at), ap length f.left, lines_fit log)
 
-  pub done-short : done + 80 ≤ length out
-  done-short = omega (arith, done-few, same-long)
+  pub done_short : done + 80 ≤ length out
+  done_short = omega (arith, done_few, same_long)
 
   -- the part that a line is put into
   abbrev part : List ℕ
   part = mid_of done (length out - done) out
 
   pub part_room : 80 ≤ length part
-  part_room = omega (arith, done-short, length-take-le (length out - done) (drop done out) (omega (arith, length-drop done out)))
+  part_room = omega (arith, done_short, length-take-le (length out - done) (drop done out) (omega (arith, length-drop done out)))
 
   abbrev shown : Shown
   shown = shown_at log at
@@ -115,29 +115,29 @@ module _ (log out₀ out : List ℕ) (done at : ℕ) (room : lines_size ≤ leng
     abbrev after : List ℕ
     after = put_mid done (length out - done) out m
 
-    put-there : after ≡ put out done (text_of shown)
-    put-there =
+    put_there : after ≡ put out done (text_of shown)
+    put_there =
         ap (put_mid done (length out - done) out) (filled ∙ sym (room_after part shown part_room))
-        ∙ part-put out done (text_of shown) (omega (arith, done-short, text_short log at))
+        ∙ part-put out done (text_of shown) (omega (arith, done_short, text_short log at))
 
-    written-line : (n : ℕ) → n ≡ length (text_of shown) → Written out₀ (f.lines ++ text_of shown) after (done + n)
-    written-line n e =
-        written_on out₀ f.lines out done (text_of shown) after (done + n) f.written (omega (arith, done-short, same-long, text_short log at, f.written.1)) put-there (omega arith)
+    written_line : (n : ℕ) → n ≡ length (text_of shown) → Written out₀ (f.lines ++ text_of shown) after (done + n)
+    written_line n e =
+        written_on out₀ f.lines out done (text_of shown) after (done + n) f.written (omega (arith, done_short, same_long, text_short log at, f.written.1)) put_there (omega arith)
 
     -- the last line
-    pub filled-end : (n : ℕ) → given (over n) ≡ line_answer part shown → Written out₀ (lines_of log) after (done + n)
-    filled-end n h =
+    pub filled_end : (n : ℕ) → given (over n) ≡ line_answer part shown → Written out₀ (lines_of log) after (done + n)
+    filled_end n h =
         let told = told_over part shown part_room n h in
         subst (λ (t : List ℕ). Written out₀ t after (done + n))
-        (sym (ap (λ (t : List ℕ). f.lines ++ t) (left-last log at f.bound (text_of shown) told.0)) ∙ f.left)
-        (written-line n told.1)
+        (sym (ap (λ (t : List ℕ). f.lines ++ t) (left_last log at f.bound (text_of shown) told.0)) ∙ f.left)
+        (written_line n told.1)
 
     -- a line before it
-    pub filled-turn : (n p : ℕ) → given (on n p) ≡ line_answer part shown → Filled log out₀ after (done + n) p × Leads log at p
-    filled-turn n p h =
-        let told = told-on part shown part_room n p h in
+    pub filled_turn : (n p : ℕ) → given (on n p) ≡ line_answer part shown → Filled log out₀ after (done + n) p × Leads log at p
+    filled_turn n p h =
+        let told = told_on part shown part_room n p h in
         let ahead = shown_leads log at (text_of shown) p told.0 in
-        (go f.bound ahead f.left f.enough told.0 (written-line n told.1), ahead)
+        (go f.bound ahead f.left f.enough told.0 (written_line n told.1), ahead)
       where
         go : (b : ℕ) → Leads log at p → f.lines ++ lines_in (suc b) log at ≡ lines_of log → length log ≤ at + b → shown ≡ more (text_of shown) p → Written out₀ (f.lines ++ text_of shown) after (done + n) → Filled log out₀ after (done + n) p
         go zero a l e s w = absurd (omega arith)
@@ -148,7 +148,7 @@ module _ (log out₀ out : List ℕ) (done at : ℕ) (room : lines_size ≤ leng
               written = w;
               left =
                   append_assoc f.lines (text_of shown) (lines_in (suc b) log p)
-                  ∙ sym (ap (λ (t : List ℕ). f.lines ++ t) (left-more log at (suc b) (text_of shown) p s))
+                  ∙ sym (ap (λ (t : List ℕ). f.lines ++ t) (left_more log at (suc b) (text_of shown) p s))
                   ∙ l;
               enough = omega arith;
             }

@@ -19,7 +19,7 @@ use Rattle.wal_read.proofs.ReadLaws.{moves, clear_moves, update_moves}
 use Rattle.wal_list.specs.Lines.{ascii, decimal, start_line, entry_line, started_lines, most, lines_of}
 use Rattle.wal_list.specs.Shown.{Shown, text_of, shown_at}
 use Rattle.wal_list.proofs.Decimal.{decimal-length, offset-length}
-use Rattle.wal_list.proofs.ShownLaws.{shown-next}
+use Rattle.wal_list.proofs.ShownLaws.{shown_next}
 use Rattle.wal_list.proofs.AllLines.{and_on, lines_in, lines_from, lines_long, lines_none, lines_start, start_few, short_field}
 
 -- a line of one field, at an offset
@@ -52,28 +52,28 @@ module _ (log : List ℕ) (few : length log ≤ 65536) where
   abbrev its : Edition
   its = edition_at log
 
-  from-fits : (f at : ℕ) → (at ≡ 0 → ⊥) → at ≤ length log → length (lines_in f log at) + 4 * at ≤ 4 * length log + 35
+  from_fits : (f at : ℕ) → (at ≡ 0 → ⊥) → at ≤ length log → length (lines_in f log at) + 4 * at ≤ 4 * length log + 35
   unfolding lines_in
-  from-fits zero at n h = go (next_at its log at) refl
+  from_fits zero at n h = go (next_at its log at) refl
     where
       go : (x : Next) → next_at its log at ≡ x → length (text_of (shown_at log at)) + 4 * at ≤ 4 * length log + 35
-      go (next e p) i = let m = moves Tolerant its log at e p i in omega (arith, ap (λ (s : Shown). length (text_of s)) (shown-next log at (next e p) n i), entry_fits its log at e p (omega arith) i)
-      go ended i = omega (arith, ap (λ (s : Shown). length (text_of s)) (shown-next log at ended n i), offset-length at (omega arith), length-append (decimal at) (ascii " end\n"))
-      go (stopped k) i = omega (arith, ap (λ (s : Shown). length (text_of s)) (shown-next log at (stopped k) n i), field at k (ascii " refused ") (omega arith))
-  from-fits (suc f) at n h = go (next_at its log at) refl (from-fits f)
+      go (next e p) i = let m = moves Tolerant its log at e p i in omega (arith, ap (λ (s : Shown). length (text_of s)) (shown_next log at (next e p) n i), entry_fits its log at e p (omega arith) i)
+      go ended i = omega (arith, ap (λ (s : Shown). length (text_of s)) (shown_next log at ended n i), offset-length at (omega arith), length-append (decimal at) (ascii " end\n"))
+      go (stopped k) i = omega (arith, ap (λ (s : Shown). length (text_of s)) (shown_next log at (stopped k) n i), field at k (ascii " refused ") (omega arith))
+  from_fits (suc f) at n h = go (next_at its log at) refl (from_fits f)
     where
       go : (x : Next) → next_at its log at ≡ x → ((p : ℕ) → (p ≡ 0 → ⊥) → p ≤ length log → length (lines_in f log p) + 4 * p ≤ 4 * length log + 35) → length (and_on (shown_at log at) (lines_in f log)) + 4 * at ≤ 4 * length log + 35
       go (next e p) i r =
           let m = moves Tolerant its log at e p i in
           omega (
             arith,
-            ap (λ (s : Shown). length (and_on s (lines_in f log))) (shown-next log at (next e p) n i),
+            ap (λ (s : Shown). length (and_on s (lines_in f log))) (shown_next log at (next e p) n i),
             length-append (entry_line at e) (lines_in f log p),
             entry_fits its log at e p (omega arith) i,
             r p (λ z. omega arith) (omega arith),
           )
-      go ended i r = omega (arith, ap (λ (s : Shown). length (and_on s (lines_in f log))) (shown-next log at ended n i), offset-length at (omega arith), length-append (decimal at) (ascii " end\n"))
-      go (stopped k) i r = omega (arith, ap (λ (s : Shown). length (and_on s (lines_in f log))) (shown-next log at (stopped k) n i), field at k (ascii " refused ") (omega arith))
+      go ended i r = omega (arith, ap (λ (s : Shown). length (and_on s (lines_in f log))) (shown_next log at ended n i), offset-length at (omega arith), length-append (decimal at) (ascii " end\n"))
+      go (stopped k) i r = omega (arith, ap (λ (s : Shown). length (and_on s (lines_in f log))) (shown_next log at (stopped k) n i), field at k (ascii " refused ") (omega arith))
 
 pub lines_fit : (log : List ℕ) → length (lines_of log) ≤ 4 * most + 80
 lines_fit log = go (dec_le (length log) 65536) (dec_le (length log) 0) (start_of log) refl
@@ -90,7 +90,7 @@ lines_fit log = go (dec_le (length log) 65536) (dec_le (length log) 0) (start_of
           ap length (lines_start log p (λ e. omega arith) ∙ ap (λ (a : Answer ℕ). started_lines a log) s ∙ ap (λ (t : List ℕ). first ++ t) (sym (lines_from (length log) log at (λ e. omega arith) (omega arith)))),
           length-append first (lines_in (length log) log at),
           field 0 sync (ascii " start ") (omega arith),
-          from-fits log p (length log) at (λ e. omega arith) (omega (arith, start_few (edition_at log))),
+          from_fits log p (length log) at (λ e. omega arith) (omega (arith, start_few (edition_at log))),
         )
     go (yes p) (no d) (refused k) s =
         omega (arith, ap length (lines_start log p (λ e. omega arith) ∙ ap (λ (a : Answer ℕ). started_lines a log) s), short_field 0 k (ascii " refused ") (omega arith))

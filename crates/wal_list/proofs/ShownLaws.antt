@@ -8,7 +8,7 @@ use native.Mathlib.Omega.{arith}
 use lib.ListN.{length}
 use borrow.Author.Tests.{le-leb, lt-leb, eq-eqb, ne_eqb}
 use Rattle.answers.specs.Refusals.{number_of}
-use Rattle.answers.proofs.Laws.{refusal-one}
+use Rattle.answers.proofs.Laws.{refusal_one}
 use Rattle.answers.specs.Answers.{Answer, given, refused}
 use types.Run.{OneOf}
 use denote.Enum.Declared.{tag_of}
@@ -27,54 +27,54 @@ use Rattle.wal_list.specs.declared.Line.TheVariants as line
 use Rattle.wal_list.proofs.Writing.{Written}
 
 module _ (log : List ℕ) where
-  pub first-long : 65536 < length log → first_shown log ≡ last (refused_line 0 2)
+  pub first_long : 65536 < length log → first_shown log ≡ last (refused_line 0 2)
   unfolding first_shown
-  first-long h = simp (lt-leb (length log) 65536 h)
+  first_long h = simp (lt-leb (length log) 65536 h)
 
   pub first_none : length log ≡ 0 → first_shown log ≡ last (ascii "empty\n")
   unfolding first_shown
   first_none e = simp (le-leb (length log) 65536 (omega arith), eq-eqb (length log) 0 e)
 
-  pub first-start : length log ≤ 65536 → (length log ≡ 0 → ⊥) → first_shown log ≡ started (edition_at log) (start_of log)
+  pub first_start : length log ≤ 65536 → (length log ≡ 0 → ⊥) → first_shown log ≡ started (edition_at log) (start_of log)
   unfolding first_shown
-  first-start h n = simp (le-leb (length log) 65536 h, ne_eqb (length log) 0 n)
+  first_start h n = simp (le-leb (length log) 65536 h, ne_eqb (length log) 0 n)
 
-  pub shown-first : (at : ℕ) → at ≡ 0 → shown_at log at ≡ first_shown log
-  shown-first at e = ap (λ (b : Bool). cond b (first_shown log) (next_shown (next_at (edition_at log) log at) at)) (eq-eqb at 0 e)
+  pub shown_first : (at : ℕ) → at ≡ 0 → shown_at log at ≡ first_shown log
+  shown_first at e = ap (λ (b : Bool). cond b (first_shown log) (next_shown (next_at (edition_at log) log at) at)) (eq-eqb at 0 e)
 
-  pub shown-next : (at : ℕ) (n : Next) → (at ≡ 0 → ⊥) → next_at (edition_at log) log at ≡ n → shown_at log at ≡ next_shown n at
-  shown-next at n e h = ap (λ (b : Bool). cond b (first_shown log) (next_shown (next_at (edition_at log) log at) at)) (ne_eqb at 0 e) ∙ ap (λ (m : Next). next_shown m at) h
+  pub shown_next : (at : ℕ) (n : Next) → (at ≡ 0 → ⊥) → next_at (edition_at log) log at ≡ n → shown_at log at ≡ next_shown n at
+  shown_next at n e h = ap (λ (b : Bool). cond b (first_shown log) (next_shown (next_at (edition_at log) log at) at)) (ne_eqb at 0 e) ∙ ap (λ (m : Next). next_shown m at) h
 
 -- a buffer that is long enough is filled, a shorter one stays
 module _ (l : List ℕ) (s : Shown) where
-  pub room-answer : 80 ≤ length l → given (said_of s) ≡ line_answer l s
-  room-answer h = sym (ap (λ (b : Bool). cond b (given (said_of s)) (refused 2)) (le-leb 80 (length l) h))
+  pub room_answer : 80 ≤ length l → given (said_of s) ≡ line_answer l s
+  room_answer h = sym (ap (λ (b : Bool). cond b (given (said_of s)) (refused 2)) (le-leb 80 (length l) h))
 
   pub room_after : 80 ≤ length l → put l 0 (text_of s) ≡ line_after l s
   room_after h = sym (ap (λ (b : Bool). cond b (put l 0 (text_of s)) l) (le-leb 80 (length l) h))
 
-  pub short-answer : length l < 80 → refused 2 ≡ line_answer l s
-  short-answer h = sym (ap (λ (b : Bool). cond b (given (said_of s)) (refused 2)) (lt-leb 80 (length l) h))
+  pub short_answer : length l < 80 → refused 2 ≡ line_answer l s
+  short_answer h = sym (ap (λ (b : Bool). cond b (given (said_of s)) (refused 2)) (lt-leb 80 (length l) h))
 
-  pub short-after : length l < 80 → l ≡ line_after l s
-  short-after h = sym (ap (λ (b : Bool). cond b (put l 0 (text_of s)) l) (lt-leb 80 (length l) h))
+  pub short_after : length l < 80 → l ≡ line_after l s
+  short_after h = sym (ap (λ (b : Bool). cond b (put l 0 (text_of s)) l) (lt-leb 80 (length l) h))
 
 -- ---- what is said and filled in
 module _ (l m : List ℕ) (s : Shown) (t : List ℕ) (e : ℕ) (w : Written l t m e) where
-  pub filled-last : s ≡ last t → (given (over e) ≡ given (said_of s)) × (m ≡ put l 0 (text_of s))
-  filled-last h = (ap (λ (k : ℕ). given (over k)) w.1 ∙ sym (ap (λ (x : Shown). given (said_of x)) h), w.0 ∙ sym (ap (λ (x : Shown). put l 0 (text_of x)) h))
+  pub filled_last : s ≡ last t → (given (over e) ≡ given (said_of s)) × (m ≡ put l 0 (text_of s))
+  filled_last h = (ap (λ (k : ℕ). given (over k)) w.1 ∙ sym (ap (λ (x : Shown). given (said_of x)) h), w.0 ∙ sym (ap (λ (x : Shown). put l 0 (text_of x)) h))
 
   pub filled_more : (p : ℕ) → s ≡ more t p → (given (on e p) ≡ given (said_of s)) × (m ≡ put l 0 (text_of s))
   filled_more p h = (ap (λ (k : ℕ). given (on k p)) w.1 ∙ sym (ap (λ (x : Shown). given (said_of x)) h), w.0 ∙ sym (ap (λ (x : Shown). put l 0 (text_of x)) h))
 
 pub with_room : (l m : List ℕ) (s : Shown) (a : Answer Said) → 80 ≤ length l → (a ≡ given (said_of s)) × (m ≡ put l 0 (text_of s)) → (a ≡ line_answer l s) × (m ≡ line_after l s)
-with_room l m s a h (x, y) = (x ∙ room-answer l s h, y ∙ room_after l s h)
+with_room l m s a h (x, y) = (x ∙ room_answer l s h, y ∙ room_after l s h)
 
 -- an update's line, by its head
 pub shown_update : (log : List ℕ) (at b c p : ℕ) → (at ≡ 0 → ⊥) → There Tolerant (edition_at log) log at b c p → shown_at log at ≡ more (decimal at ++ ascii " update " ++ decimal b ++ ascii " " ++ decimal c ++ ascii "\n") p
 unfolding update_of
 shown_update log at b c p n t =
-    shown-next log at (next (update_of log (at + mark_size (edition_at log))) p) n t.here
+    shown_next log at (next (update_of log (at + mark_size (edition_at log))) p) n t.here
     ∙ sym (ap (λ (k : ℕ). more (decimal at ++ ascii " update " ++ decimal (le (block 8 log (at + mark_size (edition_at log) + 56 + 32 * k))) ++ ascii " " ++ decimal k ++ ascii "\n") p) t.count)
     ∙ sym (ap (λ (x : ℕ). more (decimal at ++ ascii " update " ++ decimal x ++ ascii " " ++ decimal c ++ ascii "\n") p) t.bucket)
 
@@ -86,13 +86,13 @@ only_end head.End x y z = refl
 only_end (head.Refused r) x y z = absurd (⊎_elim (λ (e : 3 ≡ 0). omega arith) (⊎_elim (λ (e : 3 ≡ 1). omega arith) (λ (e : 3 ≡ 2). omega arith)) x)
 
 -- ---- two answers that the contract allows for one input are equal
-pub line-one : (a b : Line) → line_said a ≡ line_said b → a ≡ b
-line-one (line.More n p) (line.More m q) e = let f : n ≡ m = cc in let g : p ≡ q = cc in cc
-line-one (line.More n p) (line.Last m) e = let z : ◌≡◌ {A = ℕ} 0 1 = cc in absurd (omega arith)
-line-one (line.More n p) (line.Refused s) e = let z : ◌≡◌ {A = ℕ} 0 1 = cc in absurd (omega arith)
-line-one (line.Last n) (line.More m q) e = let z : ◌≡◌ {A = ℕ} 0 1 = cc in absurd (omega arith)
-line-one (line.Last n) (line.Last m) e = let f : n ≡ m = cc in cc
-line-one (line.Last n) (line.Refused s) e = let z : ◌≡◌ {A = ℕ} 0 1 = cc in absurd (omega arith)
-line-one (line.Refused r) (line.More m q) e = let z : ◌≡◌ {A = ℕ} 0 1 = cc in absurd (omega arith)
-line-one (line.Refused r) (line.Last m) e = let z : ◌≡◌ {A = ℕ} 0 1 = cc in absurd (omega arith)
-line-one (line.Refused r) (line.Refused s) e = let f : number_of r ≡ number_of s = cc in ap line.Refused (refusal-one r s f)
+pub line_one : (a b : Line) → line_said a ≡ line_said b → a ≡ b
+line_one (line.More n p) (line.More m q) e = let f : n ≡ m = cc in let g : p ≡ q = cc in cc
+line_one (line.More n p) (line.Last m) e = let z : ◌≡◌ {A = ℕ} 0 1 = cc in absurd (omega arith)
+line_one (line.More n p) (line.Refused s) e = let z : ◌≡◌ {A = ℕ} 0 1 = cc in absurd (omega arith)
+line_one (line.Last n) (line.More m q) e = let z : ◌≡◌ {A = ℕ} 0 1 = cc in absurd (omega arith)
+line_one (line.Last n) (line.Last m) e = let f : n ≡ m = cc in cc
+line_one (line.Last n) (line.Refused s) e = let z : ◌≡◌ {A = ℕ} 0 1 = cc in absurd (omega arith)
+line_one (line.Refused r) (line.More m q) e = let z : ◌≡◌ {A = ℕ} 0 1 = cc in absurd (omega arith)
+line_one (line.Refused r) (line.Last m) e = let z : ◌≡◌ {A = ℕ} 0 1 = cc in absurd (omega arith)
+line_one (line.Refused r) (line.Refused s) e = let f : number_of r ≡ number_of s = cc in ap line.Refused (refusal_one r s f)

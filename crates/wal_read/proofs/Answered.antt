@@ -6,7 +6,7 @@ use native.Mathlib.Omega.{arith}
 use lib.ListN.{length, replicate}
 use Rattle.answers.specs.Refusals.{number_of}
 use Rattle.answers.specs.declared.Refusal.{Refusal}
-use Rattle.answers.proofs.Laws.{refusal-one}
+use Rattle.answers.proofs.Laws.{refusal_one}
 use Rattle.blocks.specs.Blocks.{le, block}
 use Rattle.page_diff.specs.Diff.{count_of, read_words}
 use Rattle.page_diff.specs.Pack.{packed_by}
@@ -23,7 +23,7 @@ use Rattle.wal_read.specs.declared.Head.TheVariants as head
 use Rattle.wal_read.specs.declared.What.{What}
 use Rattle.wal_read.specs.declared.What.TheVariants as what
 use Rattle.wal_read.specs.declared.WalEntry.{WalEntry}
-use Rattle.wal_read.proofs.NextLaws.{read-words}
+use Rattle.wal_read.proofs.NextLaws.{read_words_lem}
 use Rattle.wal_read.proofs.Nodes.{nodes-length}
 use Rattle.wal_read.proofs.ReadLaws.{There}
 
@@ -33,21 +33,21 @@ unfolding rows
 bare_packed p e = e
 
 module _ (at p : ℕ) (e : WalEntry) where
-  pub bare-clear : (n : Next) (b : ℕ) → n ≡ next (clear b) p → Bare (what.Clear b) p e → Taken n at e
-  bare-clear n b h k =
+  pub bare_clear : (n : Next) (b : ℕ) → n ≡ next (clear b) p → Bare (what.Clear b) p e → Taken n at e
+  bare_clear n b h k =
       subst (λ (m : Next). Taken m at e) (sym h)
-      (record { what-is = ap what_said k.what-is; id-is = k.id-is; diff_is = k.diff_is; packed-is = bare_packed e.packed k.packed-is; elided-is = k.elided-is; next-is = k.next-is })
+      (record { what_is = ap what_said k.what_is; id_is = k.id_is; diff_is = k.diff_is; packed_is = bare_packed e.packed k.packed_is; elided_is = k.elided_is; next_is = k.next_is })
 
 module _ (at : ℕ) (e : WalEntry) where
-  pub bare-end : (n : Next) → n ≡ ended → Bare what.End at e → Taken n at e
-  bare-end n h k =
+  pub bare_end : (n : Next) → n ≡ ended → Bare what.End at e → Taken n at e
+  bare_end n h k =
       subst (λ (m : Next). Taken m at e) (sym h)
-      (record { what-is = ap what_said k.what-is; id-is = k.id-is; diff_is = k.diff_is; packed-is = bare_packed e.packed k.packed-is; elided-is = k.elided-is; next-is = k.next-is })
+      (record { what_is = ap what_said k.what_is; id_is = k.id_is; diff_is = k.diff_is; packed_is = bare_packed e.packed k.packed_is; elided_is = k.elided_is; next_is = k.next_is })
 
-  pub bare-stop : (n : Next) (r : Refusal) → n ≡ stopped (number_of r) → Bare (what.Refused r) at e → Taken n at e
-  bare-stop n r h k =
+  pub bare_stop : (n : Next) (r : Refusal) → n ≡ stopped (number_of r) → Bare (what.Refused r) at e → Taken n at e
+  bare_stop n r h k =
       subst (λ (m : Next). Taken m at e) (sym h)
-      (record { what-is = ap what_said k.what-is; id-is = k.id-is; diff_is = k.diff_is; packed-is = bare_packed e.packed k.packed-is; elided-is = k.elided-is; next-is = k.next-is })
+      (record { what_is = ap what_said k.what_is; id_is = k.id_is; diff_is = k.diff_is; packed_is = bare_packed e.packed k.packed_is; elided_is = k.elided_is; next_is = k.next_is })
 
 -- ---- an update, field by field
 module _ (rule : AfterEnd) (ed : Edition) (log : List ℕ) (at b c p : ℕ) (e : WalEntry) (t : There rule ed log at b c p) where
@@ -55,71 +55,71 @@ module _ (rule : AfterEnd) (ed : Edition) (log : List ℕ) (at b c p : ℕ) (e :
   body = at + mark_size ed
 
   -- the fields as they are read m bytes after the mark's first
-  pub update-taken : (m : ℕ) → m ≡ mark_size ed → e.what ≡ what.Update b → e.id ≡ block 32 log (at + m) → e.diff.words ≡ read_words (block 16 log (at + m + 32)) → e.packed ≡ packed_by (rows (nodes_from log (at + m + 48) c)) c
+  pub update_taken : (m : ℕ) → m ≡ mark_size ed → e.what ≡ what.Update b → e.id ≡ block 32 log (at + m) → e.diff.words ≡ read_words (block 16 log (at + m + 32)) → e.packed ≡ packed_by (rows (nodes_from log (at + m + 48) c)) c
       → e.elided ≡ block 8 log (at + m + 48 + 32 * c) → e.next ≡ p → Taken (next_by rule ed log at) at e
   unfolding update_of
-  update-taken m same-mark w i d k l n =
+  update_taken m same-mark w i d k l n =
       let same : c ≡ count_of (diff_at log body) = t.count in
       let many : length (nodes_from log (body + 48) c) ≡ c = nodes-length log (body + 48) c in
       subst (λ (m : Next). Taken m at e) (sym t.here)
       (record {
-        what-is = ap what_said w ∙ ap updates (t.bucket ∙ ap (λ (j : ℕ). le (block 8 log (body + 56 + 32 * j))) same);
-        id-is = i ∙ ap (λ (j : ℕ). block 32 log (at + j)) same-mark;
-        diff_is = d ∙ ap (λ (j : ℕ). read_words (block 16 log (at + j + 32))) same-mark ∙ read-words (block 16 log (body + 32)) t.plain;
-        packed-is =
+        what_is = ap what_said w ∙ ap updates (t.bucket ∙ ap (λ (j : ℕ). le (block 8 log (body + 56 + 32 * j))) same);
+        id_is = i ∙ ap (λ (j : ℕ). block 32 log (at + j)) same-mark;
+        diff_is = d ∙ ap (λ (j : ℕ). read_words (block 16 log (at + j + 32))) same-mark ∙ read_words_lem (block 16 log (body + 32)) t.plain;
+        packed_is =
             k ∙ ap (λ (j : ℕ). packed_by (rows (nodes_from log (at + j + 48) c)) c) same-mark
             ∙ ap (λ (j : ℕ). packed_by (rows (nodes_from log (body + 48) c)) j) (sym many) ∙ ap (λ (j : ℕ). packed_by (rows (nodes_from log (body + 48) j)) (length (nodes_from log (body + 48) j))) same;
-        elided-is = l ∙ ap (λ (j : ℕ). block 8 log (at + j + 48 + 32 * c)) same-mark ∙ ap (λ (j : ℕ). block 8 log (body + 48 + 32 * j)) same;
-        next-is = n;
+        elided_is = l ∙ ap (λ (j : ℕ). block 8 log (at + j + 48 + 32 * c)) same-mark ∙ ap (λ (j : ℕ). block 8 log (body + 48 + 32 * j)) same;
+        next_is = n;
       })
 
 -- ---- two answers that a contract allows for one input are equal
-pub head-one : (a b : Head) → head_said a ≡ head_said b → a ≡ b
-head-one (head.Clear b p) (head.Clear a q) e = let f : b ≡ a = cc in let g : p ≡ q = cc in cc
-head-one (head.Clear b p) (head.Update a c q) e = let z : ◌≡◌ {A = ℕ} 0 1 = cc in absurd (omega arith)
-head-one (head.Clear b p) head.End e = let z : ◌≡◌ {A = ℕ} 0 1 = cc in absurd (omega arith)
-head-one (head.Clear b p) (head.Refused s) e = let z : ◌≡◌ {A = ℕ} 0 1 = cc in absurd (omega arith)
-head-one (head.Update b c p) (head.Clear a q) e = let z : ◌≡◌ {A = ℕ} 0 1 = cc in absurd (omega arith)
-head-one (head.Update b c p) (head.Update a d q) e = let f : b ≡ a = cc in let g : p ≡ q = cc in let h : c ≡ d = cc in cc
-head-one (head.Update b c p) head.End e = let z : ◌≡◌ {A = ℕ} 0 1 = cc in absurd (omega arith)
-head-one (head.Update b c p) (head.Refused s) e = let z : ◌≡◌ {A = ℕ} 0 1 = cc in absurd (omega arith)
-head-one head.End (head.Clear a q) e = let z : ◌≡◌ {A = ℕ} 0 1 = cc in absurd (omega arith)
-head-one head.End (head.Update a d q) e = let z : ◌≡◌ {A = ℕ} 0 1 = cc in absurd (omega arith)
-head-one head.End head.End e = refl
-head-one head.End (head.Refused s) e = let z : ◌≡◌ {A = ℕ} 0 1 = cc in absurd (omega arith)
-head-one (head.Refused r) (head.Clear a q) e = let z : ◌≡◌ {A = ℕ} 0 1 = cc in absurd (omega arith)
-head-one (head.Refused r) (head.Update a d q) e = let z : ◌≡◌ {A = ℕ} 0 1 = cc in absurd (omega arith)
-head-one (head.Refused r) head.End e = let z : ◌≡◌ {A = ℕ} 0 1 = cc in absurd (omega arith)
-head-one (head.Refused r) (head.Refused s) e = let f : number_of r ≡ number_of s = cc in ap head.Refused (refusal-one r s f)
+pub head_one : (a b : Head) → head_said a ≡ head_said b → a ≡ b
+head_one (head.Clear b p) (head.Clear a q) e = let f : b ≡ a = cc in let g : p ≡ q = cc in cc
+head_one (head.Clear b p) (head.Update a c q) e = let z : ◌≡◌ {A = ℕ} 0 1 = cc in absurd (omega arith)
+head_one (head.Clear b p) head.End e = let z : ◌≡◌ {A = ℕ} 0 1 = cc in absurd (omega arith)
+head_one (head.Clear b p) (head.Refused s) e = let z : ◌≡◌ {A = ℕ} 0 1 = cc in absurd (omega arith)
+head_one (head.Update b c p) (head.Clear a q) e = let z : ◌≡◌ {A = ℕ} 0 1 = cc in absurd (omega arith)
+head_one (head.Update b c p) (head.Update a d q) e = let f : b ≡ a = cc in let g : p ≡ q = cc in let h : c ≡ d = cc in cc
+head_one (head.Update b c p) head.End e = let z : ◌≡◌ {A = ℕ} 0 1 = cc in absurd (omega arith)
+head_one (head.Update b c p) (head.Refused s) e = let z : ◌≡◌ {A = ℕ} 0 1 = cc in absurd (omega arith)
+head_one head.End (head.Clear a q) e = let z : ◌≡◌ {A = ℕ} 0 1 = cc in absurd (omega arith)
+head_one head.End (head.Update a d q) e = let z : ◌≡◌ {A = ℕ} 0 1 = cc in absurd (omega arith)
+head_one head.End head.End e = refl
+head_one head.End (head.Refused s) e = let z : ◌≡◌ {A = ℕ} 0 1 = cc in absurd (omega arith)
+head_one (head.Refused r) (head.Clear a q) e = let z : ◌≡◌ {A = ℕ} 0 1 = cc in absurd (omega arith)
+head_one (head.Refused r) (head.Update a d q) e = let z : ◌≡◌ {A = ℕ} 0 1 = cc in absurd (omega arith)
+head_one (head.Refused r) head.End e = let z : ◌≡◌ {A = ℕ} 0 1 = cc in absurd (omega arith)
+head_one (head.Refused r) (head.Refused s) e = let f : number_of r ≡ number_of s = cc in ap head.Refused (refusal_one r s f)
 
-pub what-one : (a b : What) → what_said a ≡ what_said b → a ≡ b
-what-one (what.Clear b) (what.Clear a) e = let f : b ≡ a = cc in cc
-what-one (what.Clear b) (what.Update a) e = let z : ◌≡◌ {A = ℕ} 0 1 = cc in absurd (omega arith)
-what-one (what.Clear b) what.End e = let z : ◌≡◌ {A = ℕ} 0 1 = cc in absurd (omega arith)
-what-one (what.Clear b) (what.Refused s) e = let z : ◌≡◌ {A = ℕ} 0 1 = cc in absurd (omega arith)
-what-one (what.Update b) (what.Clear a) e = let z : ◌≡◌ {A = ℕ} 0 1 = cc in absurd (omega arith)
-what-one (what.Update b) (what.Update a) e = let f : b ≡ a = cc in cc
-what-one (what.Update b) what.End e = let z : ◌≡◌ {A = ℕ} 0 1 = cc in absurd (omega arith)
-what-one (what.Update b) (what.Refused s) e = let z : ◌≡◌ {A = ℕ} 0 1 = cc in absurd (omega arith)
-what-one what.End (what.Clear a) e = let z : ◌≡◌ {A = ℕ} 0 1 = cc in absurd (omega arith)
-what-one what.End (what.Update a) e = let z : ◌≡◌ {A = ℕ} 0 1 = cc in absurd (omega arith)
-what-one what.End what.End e = refl
-what-one what.End (what.Refused s) e = let z : ◌≡◌ {A = ℕ} 0 1 = cc in absurd (omega arith)
-what-one (what.Refused r) (what.Clear a) e = let z : ◌≡◌ {A = ℕ} 0 1 = cc in absurd (omega arith)
-what-one (what.Refused r) (what.Update a) e = let z : ◌≡◌ {A = ℕ} 0 1 = cc in absurd (omega arith)
-what-one (what.Refused r) what.End e = let z : ◌≡◌ {A = ℕ} 0 1 = cc in absurd (omega arith)
-what-one (what.Refused r) (what.Refused s) e = let f : number_of r ≡ number_of s = cc in ap what.Refused (refusal-one r s f)
+pub what_one : (a b : What) → what_said a ≡ what_said b → a ≡ b
+what_one (what.Clear b) (what.Clear a) e = let f : b ≡ a = cc in cc
+what_one (what.Clear b) (what.Update a) e = let z : ◌≡◌ {A = ℕ} 0 1 = cc in absurd (omega arith)
+what_one (what.Clear b) what.End e = let z : ◌≡◌ {A = ℕ} 0 1 = cc in absurd (omega arith)
+what_one (what.Clear b) (what.Refused s) e = let z : ◌≡◌ {A = ℕ} 0 1 = cc in absurd (omega arith)
+what_one (what.Update b) (what.Clear a) e = let z : ◌≡◌ {A = ℕ} 0 1 = cc in absurd (omega arith)
+what_one (what.Update b) (what.Update a) e = let f : b ≡ a = cc in cc
+what_one (what.Update b) what.End e = let z : ◌≡◌ {A = ℕ} 0 1 = cc in absurd (omega arith)
+what_one (what.Update b) (what.Refused s) e = let z : ◌≡◌ {A = ℕ} 0 1 = cc in absurd (omega arith)
+what_one what.End (what.Clear a) e = let z : ◌≡◌ {A = ℕ} 0 1 = cc in absurd (omega arith)
+what_one what.End (what.Update a) e = let z : ◌≡◌ {A = ℕ} 0 1 = cc in absurd (omega arith)
+what_one what.End what.End e = refl
+what_one what.End (what.Refused s) e = let z : ◌≡◌ {A = ℕ} 0 1 = cc in absurd (omega arith)
+what_one (what.Refused r) (what.Clear a) e = let z : ◌≡◌ {A = ℕ} 0 1 = cc in absurd (omega arith)
+what_one (what.Refused r) (what.Update a) e = let z : ◌≡◌ {A = ℕ} 0 1 = cc in absurd (omega arith)
+what_one (what.Refused r) what.End e = let z : ◌≡◌ {A = ℕ} 0 1 = cc in absurd (omega arith)
+what_one (what.Refused r) (what.Refused s) e = let f : number_of r ≡ number_of s = cc in ap what.Refused (refusal_one r s f)
 
 -- an entry is its fields
 abbrev entry : What → List ℕ → List ℕ → Packed → List ℕ → ℕ → WalEntry
 entry w i ws k l n = record { what = w; id = i; diff = record { words = ws }; packed = k; elided = l; next = n }
 
-pub entry-one : (n : Next) (at : ℕ) (a b : WalEntry) → Taken n at a → Taken n at b → a ≡ b
-entry-one n at a b s t =
-    let w : a.what ≡ b.what = what-one a.what b.what (s.what-is ∙ sym t.what-is) in
-    let i : a.id ≡ b.id = s.id-is ∙ sym t.id-is in
+pub entry_one : (n : Next) (at : ℕ) (a b : WalEntry) → Taken n at a → Taken n at b → a ≡ b
+entry_one n at a b s t =
+    let w : a.what ≡ b.what = what_one a.what b.what (s.what_is ∙ sym t.what_is) in
+    let i : a.id ≡ b.id = s.id_is ∙ sym t.id_is in
     let d : a.diff.words ≡ b.diff.words = s.diff_is ∙ sym t.diff_is in
-    let k : a.packed ≡ b.packed = s.packed-is ∙ sym t.packed-is in
-    let l : a.elided ≡ b.elided = s.elided-is ∙ sym t.elided-is in
-    let p : a.next ≡ b.next = s.next-is ∙ sym t.next-is in
+    let k : a.packed ≡ b.packed = s.packed_is ∙ sym t.packed_is in
+    let l : a.elided ≡ b.elided = s.elided_is ∙ sym t.elided_is in
+    let p : a.next ≡ b.next = s.next_is ∙ sym t.next_is in
     λ j. entry (w j) (i j) (d j) (k j) (l j) (p j)

@@ -60,7 +60,7 @@ answered = record { what = what.Update 9; id = replicate 32 1; diff = record { w
 
 pub taken : Taken (next_at One log 14) 14 answered
 unfolding next_at block marked slots_below rows
-taken = record { what-is = refl; id-is = refl; diff_is = refl; packed-is = refl; elided-is = refl; next-is = refl }
+taken = record { what_is = refl; id_is = refl; diff_is = refl; packed_is = refl; elided_is = refl; next_is = refl }
 
 -- what a reader gives, by what its start answered: the entry, or the start's refusal
 pub given_at : gives_at Zeros (given 7) log 5 ∷ gives_at Zeros (given 7) log_two_lem 22 ∷ gives_at Zeros (refused 7) log 5 ∷ [] ≡ next (clear 3) 14 ∷ next (clear 3) 32 ∷ stopped 7 ∷ []

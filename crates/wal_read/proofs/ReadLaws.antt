@@ -19,72 +19,72 @@ use Rattle.wal.specs.declared.AfterEnd.{AfterEnd}
 use Rattle.wal.specs.declared.Edition.{Edition}
 use Rattle.wal.proofs.Records.{mark_some}
 use Rattle.wal_read.specs.Head.{a_clear, an_update, the_end, a_refusal, head_of}
-use Rattle.wal_read.proofs.NextLaws.{mark_within, by-unknown, by-clear-cut, by-clear, by-diff-cut, by-reserved, by-update-cut, by-update, next-unmarked, next_past, next-tagged}
+use Rattle.wal_read.proofs.NextLaws.{mark_within, by_unknown, by_clear_cut, by_clear, by_diff_cut, by_reserved, by_update_cut, by_update, next_unmarked, next_past, next_tagged}
 use Rattle.wal_read.proofs.Nodes.{nodes-length}
 
 -- ---- what can stand at a position
 pub data Stands (ed : Edition) (log : List ℕ) (at : ℕ) : Next → Type 0 where
-  a-clear : at + mark_size ed + 8 ≤ length log → Stands ed log at (next (clear (le (block 8 log (at + mark_size ed)))) (at + mark_size ed + 8))
-  an-update : reserved (diff_at log (at + mark_size ed)) ≡ false → at + mark_size ed + update_body (count_of (diff_at log (at + mark_size ed))) ≤ length log → Stands ed log at (next (update_of log (at + mark_size ed)) (at + mark_size ed + update_body (count_of (diff_at log (at + mark_size ed)))))
-  an-end : at + mark_size ed ≤ length log → Stands ed log at ended
-  a-stop : (n : ℕ) → Stands ed log at (stopped n)
+  a_clear_lem : at + mark_size ed + 8 ≤ length log → Stands ed log at (next (clear (le (block 8 log (at + mark_size ed)))) (at + mark_size ed + 8))
+  an_update_lem : reserved (diff_at log (at + mark_size ed)) ≡ false → at + mark_size ed + update_body (count_of (diff_at log (at + mark_size ed))) ≤ length log → Stands ed log at (next (update_of log (at + mark_size ed)) (at + mark_size ed + update_body (count_of (diff_at log (at + mark_size ed)))))
+  an_end : at + mark_size ed ≤ length log → Stands ed log at ended
+  a_stop : (n : ℕ) → Stands ed log at (stopped n)
 
 module _ (ed : Edition) (log : List ℕ) (at : ℕ) where
   stop : {m : Next} (n : ℕ) → m ≡ stopped n → Stands ed log at m
-  stop n e = subst (Stands ed log at) (sym e) (a-stop n)
+  stop n e = subst (Stands ed log at) (sym e) (a_stop n)
 
   abbrev body : ℕ
   body = at + mark_size ed
 
-  update-stands : Stands ed log at (by_tag 4 log (at + mark_size ed))
-  update-stands = go (dec_le (body + 48) (length log)) (reserved (diff_at log body)) refl (dec_le (body + update_body (count_of (diff_at log body))) (length log))
+  update_stands : Stands ed log at (by_tag 4 log (at + mark_size ed))
+  update_stands = go (dec_le (body + 48) (length log)) (reserved (diff_at log body)) refl (dec_le (body + update_body (count_of (diff_at log body))) (length log))
     where
       go : Dec (body + 48 ≤ length log) → (b : Bool) → reserved (diff_at log body) ≡ b → Dec (body + update_body (count_of (diff_at log body)) ≤ length log) → Stands ed log at (by_tag 4 log body)
-      go (no p) b r q = stop 6 (by-diff-cut log body (lt_of_not-le p))
-      go (yes p) true r q = stop 4 (by-reserved log body p r)
-      go (yes p) false r (no q) = stop 6 (by-update-cut log body p r (lt_of_not-le q))
-      go (yes p) false r (yes q) = subst (Stands ed log at) (sym (by-update log body r q)) (an-update r q)
+      go (no p) b r q = stop 6 (by_diff_cut log body (lt_of_not-le p))
+      go (yes p) true r q = stop 4 (by_reserved log body p r)
+      go (yes p) false r (no q) = stop 6 (by_update_cut log body p r (lt_of_not-le q))
+      go (yes p) false r (yes q) = subst (Stands ed log at) (sym (by_update log body r q)) (an_update_lem r q)
 
-  tag-stands : (t : ℕ) → at + mark_size ed ≤ length log → Stands ed log at (by_tag t log (at + mark_size ed))
-  tag-stands t h = go (eqb t 2) (eqb t 3) (eqb t 4) refl refl refl (dec_le (body + 8) (length log))
+  tag_stands : (t : ℕ) → at + mark_size ed ≤ length log → Stands ed log at (by_tag t log (at + mark_size ed))
+  tag_stands t h = go (eqb t 2) (eqb t 3) (eqb t 4) refl refl refl (dec_le (body + 8) (length log))
     where
       of : (k : ℕ) → eqb t k ≡ true → Stands ed log at (by_tag k log body) → Stands ed log at (by_tag t log body)
       of k e = subst (λ (j : ℕ). Stands ed log at (by_tag j log body)) (sym (eqb-true t k e))
 
       go : (a b c : Bool) → eqb t 2 ≡ a → eqb t 3 ≡ b → eqb t 4 ≡ c → Dec (body + 8 ≤ length log) → Stands ed log at (by_tag t log body)
-      go true b c x y z q = of 2 x (an-end h)
-      go false true c x y z (yes q) = of 3 y (subst (Stands ed log at) (sym (by-clear log body q)) (a-clear q))
-      go false true c x y z (no q) = of 3 y (stop 6 (by-clear-cut log body (lt_of_not-le q)))
-      go false false true x y z q = of 4 z update-stands
-      go false false false x y z q = stop 8 (by-unknown log body t (eqb-false t 2 x) (eqb-false t 3 y) (eqb-false t 4 z))
+      go true b c x y z q = of 2 x (an_end h)
+      go false true c x y z (yes q) = of 3 y (subst (Stands ed log at) (sym (by_clear log body q)) (a_clear_lem q))
+      go false true c x y z (no q) = of 3 y (stop 6 (by_clear_cut log body (lt_of_not-le q)))
+      go false false true x y z q = of 4 z update_stands
+      go false false false x y z q = stop 8 (by_unknown log body t (eqb-false t 2 x) (eqb-false t 3 y) (eqb-false t 4 z))
 
-  at-stands : Stands ed log at (next_at ed log at)
-  at-stands = go (tag_at ed log at) refl
+  at_stands : Stands ed log at (next_at ed log at)
+  at_stands = go (tag_at ed log at) refl
     where
       go : (a : Answer ℕ) → tag_at ed log at ≡ a → Stands ed log at (next_at ed log at)
-      go (given t) e = subst (Stands ed log at) (sym (next-tagged ed log at t e)) (tag-stands t (mark_within ed log at t e))
-      go (refused n) e = stop n (next-unmarked ed log at n e)
+      go (given t) e = subst (Stands ed log at) (sym (next_tagged ed log at t e)) (tag_stands t (mark_within ed log at t e))
+      go (refused n) e = stop n (next_unmarked ed log at n e)
 
   -- where something else is wanted after end, 27 stands in place of end
-  end-stands : (t : Bool) (n : Next) → Stands ed log at n → Stands ed log at (on_end t n)
-  end-stands true n s = s
-  end-stands false n (a-clear l) = a-clear l
-  end-stands false n (an-update r l) = an-update r l
-  end-stands false n (an-end l) = a-stop 27
-  end-stands false n (a-stop k) = a-stop k
+  end_stands : (t : Bool) (n : Next) → Stands ed log at n → Stands ed log at (on_end t n)
+  end_stands true n s = s
+  end_stands false n (a_clear_lem l) = a_clear_lem l
+  end_stands false n (an_update_lem r l) = an_update_lem r l
+  end_stands false n (an_end l) = a_stop 27
+  end_stands false n (a_stop k) = a_stop k
 
 pub stands : (rule : AfterEnd) (ed : Edition) (log : List ℕ) (at : ℕ) → Stands ed log at (next_by rule ed log at)
-stands rule ed log at = end-stands ed log at (wanted rule log (at + mark_size ed)) (next_at ed log at) (at-stands ed log at)
+stands rule ed log at = end_stands ed log at (wanted rule log (at + mark_size ed)) (next_at ed log at) (at_stands ed log at)
 
 -- the mark of end is inside the log
 pub end_within : (ed : Edition) (log : List ℕ) (at : ℕ) → next_at ed log at ≡ ended → at + mark_size ed ≤ length log
-end_within ed log at h = go (next_at ed log at) (at-stands ed log at) h
+end_within ed log at h = go (next_at ed log at) (at_stands ed log at) h
   where
     go : (n : Next) → Stands ed log at n → n ≡ ended → at + mark_size ed ≤ length log
-    go n (a-clear l) h = let z : ◌≡◌ {A = ℕ} 0 1 = cc in absurd (omega arith)
-    go n (an-update r l) h = let z : ◌≡◌ {A = ℕ} 0 1 = cc in absurd (omega arith)
-    go n (an-end l) h = l
-    go n (a-stop k) h = let z : ◌≡◌ {A = ℕ} 0 1 = cc in absurd (omega arith)
+    go n (a_clear_lem l) h = let z : ◌≡◌ {A = ℕ} 0 1 = cc in absurd (omega arith)
+    go n (an_update_lem r l) h = let z : ◌≡◌ {A = ℕ} 0 1 = cc in absurd (omega arith)
+    go n (an_end l) h = l
+    go n (a_stop k) h = let z : ◌≡◌ {A = ℕ} 0 1 = cc in absurd (omega arith)
 
 -- ---- an entry moves the position on by its size, and stays within the log
 pub record Moved (log : List ℕ) (at p : ℕ) : Type 0 where
@@ -95,20 +95,20 @@ pub moves : (rule : AfterEnd) (ed : Edition) (log : List ℕ) (at : ℕ) (e : En
 moves rule ed log at e p h = go (next_by rule ed log at) (stands rule ed log at) h
   where
     go : (n : Next) → Stands ed log at n → n ≡ next e p → Moved log at p
-    go n (a-clear l) h = let q : p ≡ at + mark_size ed + 8 = cc in record { on = omega (arith, mark_some ed); within = omega arith }
-    go n (an-update r l) h = let q : p ≡ at + mark_size ed + update_body (count_of (diff_at log (at + mark_size ed))) = cc in record { on = omega (arith, mark_some ed); within = omega arith }
-    go n (an-end l) h = let z : ◌≡◌ {A = ℕ} 0 1 = cc in absurd (omega arith)
-    go n (a-stop k) h = let z : ◌≡◌ {A = ℕ} 0 1 = cc in absurd (omega arith)
+    go n (a_clear_lem l) h = let q : p ≡ at + mark_size ed + 8 = cc in record { on = omega (arith, mark_some ed); within = omega arith }
+    go n (an_update_lem r l) h = let q : p ≡ at + mark_size ed + update_body (count_of (diff_at log (at + mark_size ed))) = cc in record { on = omega (arith, mark_some ed); within = omega arith }
+    go n (an_end l) h = let z : ◌≡◌ {A = ℕ} 0 1 = cc in absurd (omega arith)
+    go n (a_stop k) h = let z : ◌≡◌ {A = ℕ} 0 1 = cc in absurd (omega arith)
 
 pub clear_moves : (rule : AfterEnd) (ed : Edition) (log : List ℕ) (at b p : ℕ) → next_by rule ed log at ≡ next (clear b) p → p ≡ at + clear_size ed
 unfolding update_of
 clear_moves rule ed log at b p h = go (next_by rule ed log at) (stands rule ed log at) h
   where
     go : (n : Next) → Stands ed log at n → n ≡ next (clear b) p → p ≡ at + clear_size ed
-    go n (a-clear l) h = let q : p ≡ at + mark_size ed + 8 = cc in omega arith
-    go n (an-update r l) h = let z : ◌≡◌ {A = ℕ} 0 1 = cc in absurd (omega arith)
-    go n (an-end l) h = let z : ◌≡◌ {A = ℕ} 0 1 = cc in absurd (omega arith)
-    go n (a-stop k) h = let z : ◌≡◌ {A = ℕ} 0 1 = cc in absurd (omega arith)
+    go n (a_clear_lem l) h = let q : p ≡ at + mark_size ed + 8 = cc in omega arith
+    go n (an_update_lem r l) h = let z : ◌≡◌ {A = ℕ} 0 1 = cc in absurd (omega arith)
+    go n (an_end l) h = let z : ◌≡◌ {A = ℕ} 0 1 = cc in absurd (omega arith)
+    go n (a_stop k) h = let z : ◌≡◌ {A = ℕ} 0 1 = cc in absurd (omega arith)
 
 -- of an update: as many nodes as its diff has marks, none of them reserved, and the size by that
 pub record Sized (ed : Edition) (log : List ℕ) (at : ℕ) (ws : List ℕ) (ns : List (List ℕ)) (p : ℕ) : Type 0 where
@@ -122,8 +122,8 @@ unfolding update_of
 update_moves rule ed log at id ws ns elided b p h = go (next_by rule ed log at) (stands rule ed log at) h
   where
     go : (n : Next) → Stands ed log at n → n ≡ next (update id ws ns elided b) p → Sized ed log at ws ns p
-    go n (a-clear l) h = let z : ◌≡◌ {A = ℕ} 0 1 = cc in absurd (omega arith)
-    go n (an-update r l) h =
+    go n (a_clear_lem l) h = let z : ◌≡◌ {A = ℕ} 0 1 = cc in absurd (omega arith)
+    go n (an_update_lem r l) h =
         let e : ws ≡ diff_at log (at + mark_size ed) = cc in
         let f : ns ≡ nodes_from log (at + mark_size ed + 48) (count_of (diff_at log (at + mark_size ed))) = cc in
         let g : p ≡ at + mark_size ed + update_body (count_of (diff_at log (at + mark_size ed))) = cc in
@@ -133,8 +133,8 @@ update_moves rule ed log at id ws ns elided b p h = go (next_by rule ed log at) 
           nodes = ap length f ∙ nodes-length log (at + mark_size ed + 48) (count_of (diff_at log (at + mark_size ed))) ∙ sym (ap count_of e);
           after = omega (arith, g, ap count_of e);
         }
-    go n (an-end l) h = let z : ◌≡◌ {A = ℕ} 0 1 = cc in absurd (omega arith)
-    go n (a-stop k) h = let z : ◌≡◌ {A = ℕ} 0 1 = cc in absurd (omega arith)
+    go n (an_end l) h = let z : ◌≡◌ {A = ℕ} 0 1 = cc in absurd (omega arith)
+    go n (a_stop k) h = let z : ◌≡◌ {A = ℕ} 0 1 = cc in absurd (omega arith)
 
 -- ---- the head tells what stands there
 pub head_end : (n : Next) → the_end ≡ head_of n → n ≡ ended
@@ -170,8 +170,8 @@ unfolding update_of
 head_update rule ed log at b c p h = go (next_by rule ed log at) (stands rule ed log at) refl h
   where
     go : (n : Next) → Stands ed log at n → next_by rule ed log at ≡ n → an_update b c p ≡ head_of n → There rule ed log at b c p
-    go n (a-clear l) i h = let z : ◌≡◌ {A = ℕ} 0 1 = cc in absurd (omega arith)
-    go n (an-update r l) i h =
+    go n (a_clear_lem l) i h = let z : ◌≡◌ {A = ℕ} 0 1 = cc in absurd (omega arith)
+    go n (an_update_lem r l) i h =
         let e : c ≡ count_of (diff_at log (at + mark_size ed)) = cc in
         let f : b ≡ le (block 8 log (at + mark_size ed + 56 + 32 * count_of (diff_at log (at + mark_size ed)))) = cc in
         let g : p ≡ at + mark_size ed + update_body (count_of (diff_at log (at + mark_size ed))) = cc in
@@ -184,8 +184,8 @@ head_update rule ed log at b c p h = go (next_by rule ed log at) (stands rule ed
           after = omega arith;
           within = omega arith;
         }
-    go n (an-end l) i h = let z : ◌≡◌ {A = ℕ} 0 1 = cc in absurd (omega arith)
-    go n (a-stop k) i h = let z : ◌≡◌ {A = ℕ} 0 1 = cc in absurd (omega arith)
+    go n (an_end l) i h = let z : ◌≡◌ {A = ℕ} 0 1 = cc in absurd (omega arith)
+    go n (a_stop k) i h = let z : ◌≡◌ {A = ℕ} 0 1 = cc in absurd (omega arith)
 
 -- ---- the whole reading
 -- both ways read alike where an entry's rest does

@@ -24,7 +24,7 @@ use Rattle.wal_read.specs.declared.What.{What}
 use Rattle.wal_read.specs.declared.What.TheVariants as what
 use Rattle.wal_read.specs.declared.WalEntry.{WalEntry}
 use Rattle.wal_read.specs.declared.WalBlobReader.{WalBlobReader}
-use Rattle.wal_read.proofs.Answered.{bare-end, bare-stop}
+use Rattle.wal_read.proofs.Answered.{bare_end, bare_stop}
 
 -- a log that is lent somewhere
 abbrev lent : List ℕ → Bor (List ℕ)
@@ -35,7 +35,7 @@ abbrev bare : What → WalEntry
 bare w = record { what = w; id = replicate 32 0; diff = record { words = 0 ∷ 0 ∷ [] }; packed = packed_by (replicate 126 (replicate 32 0)) 0; elided = replicate 8 0; next = 5 }
 
 bare_is : (w : What) → Bare w 5 (bare w)
-bare_is w = record { what-is = refl; id-is = refl; diff_is = refl; packed-is = refl; elided-is = refl; next-is = refl }
+bare_is w = record { what_is = refl; id_is = refl; diff_is = refl; packed_is = refl; elided_is = refl; next_is = refl }
 
 abbrev reader : AfterEnd → List ℕ → Number → WalBlobReader
 reader rule log n = record { log = lent log; at = 5; start = n; rule = rule }
@@ -43,11 +43,11 @@ reader rule log n = record { log = lent log; at = 5; start = n; rule = rule }
 -- it answers end, or a refusal, by what stands there, and stays
 ends_there : (rule : AfterEnd) (log : List ℕ) (n : Number) → gives_at rule (number_said n) log 5 ≡ ended → Reads (reader rule log n) (bare what.End) (reader rule log n)
 ends_there rule log n h =
-    record { entry-is = bare-end 5 (bare what.End) (gives_at rule (number_said n) log 5) h (bare_is what.End); log-stays = refl; at-moves = refl; start-stays = refl; rule-stays = refl }
+    record { entry_is = bare_end 5 (bare what.End) (gives_at rule (number_said n) log 5) h (bare_is what.End); log_stays = refl; at_moves = refl; start_stays = refl; rule_stays = refl }
 
 refuses_there : (rule : AfterEnd) (log : List ℕ) (n : Number) (why : Refusal) → gives_at rule (number_said n) log 5 ≡ stopped (number_of why) → Reads (reader rule log n) (bare (what.Refused why)) (reader rule log n)
 refuses_there rule log n why h =
-    record { entry-is = bare-stop 5 (bare (what.Refused why)) (gives_at rule (number_said n) log 5) why h (bare_is (what.Refused why)); log-stays = refl; at-moves = refl; start-stays = refl; rule-stays = refl }
+    record { entry_is = bare_stop 5 (bare (what.Refused why)) (gives_at rule (number_said n) log 5) why h (bare_is (what.Refused why)); log_stays = refl; at_moves = refl; start_stays = refl; rule_stays = refl }
 
 -- sync 7 and no entry: set, it stands at the end, and is there again, by both rules, as zeros follow
 abbrev empty : List ℕ
@@ -55,7 +55,7 @@ empty = start_record (edition_one 7) ++ end_record One 5
 
 set_at_end : SetOn Zeros (lent empty) (reader Zeros empty (num.Is 7))
 unfolding block start_in
-set_at_end = record { log_is = refl; at-is = refl; start_is = refl; rule-is = refl }
+set_at_end = record { log_is = refl; at_is = refl; start_is = refl; rule_is = refl }
 
 zeros_follow : wanted Zeros empty (5 + mark_size One) ≡ true
 unfolding all_zero
@@ -72,7 +72,7 @@ used = set empty 6 1
 
 set_at_27 : SetOn Zeros (lent used) (reader Zeros used (num.Is 7))
 unfolding block start_in
-set_at_27 = record { log_is = refl; at-is = refl; start_is = refl; rule-is = refl }
+set_at_27 = record { log_is = refl; at_is = refl; start_is = refl; rule_is = refl }
 
 read_at_27 : Reads (reader Zeros used (num.Is 7)) (bare (what.Refused AfterEndUsed)) (reader Zeros used (num.Is 7))
 unfolding next_at all_zero
@@ -88,7 +88,7 @@ zeros = replicate 4096 0
 
 set_refused : SetOn Zeros (lent zeros) (reader Zeros zeros (num.Refused NoStart))
 unfolding start_in
-set_refused = record { log_is = refl; at-is = refl; start_is = refl; rule-is = refl }
+set_refused = record { log_is = refl; at_is = refl; start_is = refl; rule_is = refl }
 
 read_refused : Reads (reader Zeros zeros (num.Refused NoStart)) (bare (what.Refused NoStart)) (reader Zeros zeros (num.Refused NoStart))
 read_refused = refuses_there Zeros zeros (num.Refused NoStart) NoStart refl

@@ -68,9 +68,9 @@ next_of (stopped n) at = at
 
 -- e is the entry of what stands at a position
 pub record Taken (n : Next) (at : ℕ) (e : WalEntry) : Type 0 where
-  pub what-is : what_said e.what ≡ what_of n
-  pub id-is : e.id ≡ id_of n
+  pub what_is : what_said e.what ≡ what_of n
+  pub id_is : e.id ≡ id_of n
   pub diff_is : e.diff.words ≡ diff_of n
-  pub packed-is : e.packed ≡ packed_of n
-  pub elided-is : e.elided ≡ elided_of n
-  pub next-is : e.next ≡ next_of n at
+  pub packed_is : e.packed ≡ packed_of n
+  pub elided_is : e.elided ≡ elided_of n
+  pub next_is : e.next ≡ next_of n at

@@ -14,9 +14,9 @@ tag_said (tag.Refused r) = refused (number_of r)
 
 -- an entry that is no update: what it is and where it goes on, with no field of an update
 pub record Bare (w : What) (p : ℕ) (e : WalEntry) : Type 0 where
-  pub what-is : e.what ≡ w
-  pub id-is : e.id ≡ replicate 32 0
+  pub what_is : e.what ≡ w
+  pub id_is : e.id ≡ replicate 32 0
   pub diff_is : e.diff.words ≡ 0 ∷ 0 ∷ []
-  pub packed-is : e.packed ≡ packed_by (replicate 126 (replicate 32 0)) 0
-  pub elided-is : e.elided ≡ replicate 8 0
-  pub next-is : e.next ≡ p
+  pub packed_is : e.packed ≡ packed_by (replicate 126 (replicate 32 0)) 0
+  pub elided_is : e.elided ≡ replicate 8 0
+  pub next_is : e.next ≡ p

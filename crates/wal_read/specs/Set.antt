@@ -30,9 +30,9 @@ gives_at rule a log at = gives_by rule (edition_at log) a log at
 -- "Setting it reads the start and gives the sync number"; it then stands before the first entry
 pub record SetOn (rule : AfterEnd) (log : Bor (List ℕ)) (r : WalBlobReader) : Type 0 where
   pub log_is : r.log ≡ log
-  pub at-is : r.at ≡ first_at log.now
+  pub at_is : r.at ≡ first_at log.now
   pub start_is : number_said r.start ≡ start_of log.now
-  pub rule-is : r.rule ≡ rule
+  pub rule_is : r.rule ≡ rule
 
 -- "Tolerant calls with the former rule remain": the reader with that rule
 abbrev pub as_tolerant : WalBlobReader → WalBlobReader
@@ -44,16 +44,16 @@ Gives r e = Taken (gives_at r.rule (number_said r.start) r.log.now r.at) r.at e
 
 -- "gives the next entry and moves on; each entry is taken apart or the reading stops there, position unchanged"
 pub record Reads (r : WalBlobReader) (e : WalEntry) (after : WalBlobReader) : Type 0 where
-  pub entry-is : Gives r e
-  pub log-stays : after.log ≡ r.log
-  pub at-moves : after.at ≡ e.next
-  pub start-stays : after.start ≡ r.start
-  pub rule-stays : after.rule ≡ r.rule
+  pub entry_is : Gives r e
+  pub log_stays : after.log ≡ r.log
+  pub at_moves : after.at ≡ e.next
+  pub start_stays : after.start ≡ r.start
+  pub rule_stays : after.rule ≡ r.rule
 
 -- an answer that ends the reading
 pub data Over : What → Type 0 where
-  at-end : Over what.End
-  at-refusal : (why : Refusal) → Over (what.Refused why)
+  at_end_lem : Over what.End
+  at_refusal : (why : Refusal) → Over (what.Refused why)
 
 -- calls one after the other on one reader, with what each answers
 pub data Calls : WalBlobReader → List WalEntry → WalBlobReader → Type 0 where

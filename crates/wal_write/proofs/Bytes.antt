@@ -18,12 +18,12 @@ use Rattle.wal.proofs.RoundTrip.{seed-length}
 
 module _ (ed : Edition) (m : ℕ) (sized : m ≡ mark_size ed) (s : List ℕ) (at : ℕ) where
   -- a mark, and what stands after it
-  pub put-marked : (tag : ℕ) (bs : List ℕ) → at + m + length bs ≤ length s → put (put s at (mark ed tag)) (at + m) bs ≡ put s at (mark ed tag ++ bs)
-  put-marked tag bs h = put_then s at (at + m) (mark ed tag) bs (omega (arith, mark-length ed tag)) h
+  pub put_marked : (tag : ℕ) (bs : List ℕ) → at + m + length bs ≤ length s → put (put s at (mark ed tag)) (at + m) bs ≡ put s at (mark ed tag ++ bs)
+  put_marked tag bs h = put_then s at (at + m) (mark ed tag) bs (omega (arith, mark-length ed tag)) h
 
-  pub put-clear : (b : ℕ) → at + m + 8 ≤ length s → put (put s at (mark ed 3)) (at + m) (bytes_of 8 b) ≡ put s at (record_of ed (clear b))
+  pub put_clear : (b : ℕ) → at + m + 8 ≤ length s → put (put s at (mark ed 3)) (at + m) (bytes_of 8 b) ≡ put s at (record_of ed (clear b))
   unfolding record_of
-  put-clear b h = put-marked 3 (bytes_of 8 b) h
+  put_clear b h = put_marked 3 (bytes_of 8 b) h
 
 -- two bytes stored are two bytes put
 pub set_two : (s : List ℕ) (at x y : ℕ) → at + 2 ≤ length s → set (set s at x) (at + 1) y ≡ put s at (x ∷ y ∷ [])
@@ -56,20 +56,20 @@ head_of ed id ws = mark ed 4 ++ (id ++ bytes_of_words ws)
 pub head-length : (ed : Edition) (id ws : List ℕ) → length id ≡ 32 → length (head_of ed id ws) ≡ mark_size ed + 48
 head-length ed id ws e = omega (arith, length-append (mark ed 4) (id ++ bytes_of_words ws), mark-length ed 4, length-append id (bytes_of_words ws), words-length ws)
 
-module _ (ed : Edition) (m : ℕ) (sized : m ≡ mark_size ed) (s : List ℕ) (at : ℕ) (id ws : List ℕ) (id-long : length id ≡ 32) where
-  pub put-head : at + m + 48 ≤ length s → put (put (put s at (mark ed 4)) (at + m) id) (at + m + 32) (bytes_of_words ws) ≡ put s at (head_of ed id ws)
-  put-head h =
-      ap (λ (l : List ℕ). put l (at + m + 32) (bytes_of_words ws)) (put-marked ed m sized s at 4 id (omega arith))
+module _ (ed : Edition) (m : ℕ) (sized : m ≡ mark_size ed) (s : List ℕ) (at : ℕ) (id ws : List ℕ) (id_long : length id ≡ 32) where
+  pub put_head : at + m + 48 ≤ length s → put (put (put s at (mark ed 4)) (at + m) id) (at + m + 32) (bytes_of_words ws) ≡ put s at (head_of ed id ws)
+  put_head h =
+      ap (λ (l : List ℕ). put l (at + m + 32) (bytes_of_words ws)) (put_marked ed m sized s at 4 id (omega arith))
       ∙ put_then s at (at + m + 32) (mark ed 4 ++ id) (bytes_of_words ws) (omega (arith, length-append (mark ed 4) id, mark-length ed 4)) (omega (arith, words-length ws))
       ∙ ap (put s at) (append_assoc (mark ed 4) id (bytes_of_words ws))
 
-  pub put-update : (ns : List (List ℕ)) (elided : List ℕ) (b c : ℕ) → length (flat ns) ≡ 32 * c → length elided ≡ 8 → at + (m + (64 + 32 * c)) ≤ length s
+  pub put_update : (ns : List (List ℕ)) (elided : List ℕ) (b c : ℕ) → length (flat ns) ≡ 32 * c → length elided ≡ 8 → at + (m + (64 + 32 * c)) ≤ length s
       → put (put (put s at (head_of ed id ws)) (at + m + 48) (flat ns)) (at + (m + (64 + 32 * c) - 16)) (elided ++ bytes_of 8 b) ≡ put s at (record_of ed (update id ws ns elided b))
   unfolding record_of
-  put-update ns elided b c n e h =
+  put_update ns elided b c n e h =
       let tail : List ℕ = elided ++ bytes_of 8 b in
       let long : length tail ≡ 16 = length-append elided (bytes_of 8 b) ∙ ap₂ (λ (x y : ℕ). x + y) e refl in
-      let front : length (head_of ed id ws) ≡ m + 48 = omega (arith, head-length ed id ws id-long) in
+      let front : length (head_of ed id ws) ≡ m + 48 = omega (arith, head-length ed id ws id_long) in
       ap (λ (l : List ℕ). put l (at + (m + (64 + 32 * c) - 16)) tail) (put_then s at (at + m + 48) (head_of ed id ws) (flat ns) (omega arith) (omega arith))
       ∙ put_then s at (at + (m + (64 + 32 * c) - 16)) (head_of ed id ws ++ flat ns) tail (omega (arith, length-append (head_of ed id ws) (flat ns))) (omega arith)
       ∙ ap (put s at)

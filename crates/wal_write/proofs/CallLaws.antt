@@ -51,8 +51,8 @@ abbrev pub NotOpen : Writer → Type 0
 NotOpen w = OneOf (0 ∷ 2 ∷ []) (tag_of WriterT.the_type w)
 
 module _ {A : Type 0} (log : List ℕ) (w : Writer) (fit bad : Bool) (size : Edition → ℕ) (a : Answer A) where
-  pub not-open : NotOpen w → tested log w fit bad size a ≡ refused 12
-  not-open o = go w o
+  pub not_open : NotOpen w → tested log w fit bad size a ≡ refused 12
+  not_open o = go w o
     where
       go : (v : Writer) → NotOpen v → tested log v fit bad size a ≡ refused 12
       go Fresh o = refl
@@ -66,17 +66,17 @@ module _ {A : Type 0} (log : List ℕ) (w : Writer) (fit bad : Bool) (size : Edi
     pub unfit : fit ≡ false → tested log w fit bad size a ≡ refused 2
     unfit f = opened ∙ ap (λ (t : Bool). cond t (cond bad (refused 4) (if_room log (open_at ed at) (size ed) a)) (refused 2)) f
 
-    pub reserved-bit : fit ≡ true → bad ≡ true → tested log w fit bad size a ≡ refused 4
-    reserved-bit f b = opened ∙ ap₂ (λ (t r : Bool). cond t (cond r (refused 4) (if_room log (open_at ed at) (size ed) a)) (refused 2)) f b
+    pub reserved_bit : fit ≡ true → bad ≡ true → tested log w fit bad size a ≡ refused 4
+    reserved_bit f b = opened ∙ ap₂ (λ (t r : Bool). cond t (cond r (refused 4) (if_room log (open_at ed at) (size ed) a)) (refused 2)) f b
 
-    by-room : fit ≡ true → bad ≡ false → tested log w fit bad size a ≡ if_room log (open_at ed at) (size ed) a
-    by-room f b = opened ∙ ap₂ (λ (t r : Bool). cond t (cond r (refused 4) (if_room log (open_at ed at) (size ed) a)) (refused 2)) f b
+    by_room : fit ≡ true → bad ≡ false → tested log w fit bad size a ≡ if_room log (open_at ed at) (size ed) a
+    by_room f b = opened ∙ ap₂ (λ (t r : Bool). cond t (cond r (refused 4) (if_room log (open_at ed at) (size ed) a)) (refused 2)) f b
 
     pub no_room : fit ≡ true → bad ≡ false → leb (at + size ed + mark_size ed) (capacity log) ≡ false → tested log w fit bad size a ≡ refused 13
-    no_room f b h = by-room f b ∙ ap (λ (t : Bool). cond t a (refused 13)) h
+    no_room f b h = by_room f b ∙ ap (λ (t : Bool). cond t a (refused 13)) h
 
     pub taken : fit ≡ true → bad ≡ false → leb (at + size ed + mark_size ed) (capacity log) ≡ true → tested log w fit bad size a ≡ a
-    taken f b h = by-room f b ∙ ap (λ (t : Bool). cond t a (refused 13)) h
+    taken f b h = by_room f b ∙ ap (λ (t : Bool). cond t a (refused 13)) h
 
 -- which tests each call makes
 pub clear_tests : (log : List ℕ) (w : Writer) → clear_answer log w ≡ tested log w true false clear_size (given tt)
@@ -107,8 +107,8 @@ module _ {A : Type 0} (a : Answer A) (w v : Writer) (log : List ℕ) (pos : ℕ)
     ),
   )
 
-  pub given-leaves : (x : A) (said : Answer A) (state : Writer) (out : List ℕ) → a ≡ given x → said ≡ given x → state ≡ v → out ≡ put log pos bytes → (said ≡ a) × ((state ≡ writer_by a w v) × (out ≡ log_by a log pos bytes))
-  given-leaves x said state out e k s p = (
+  pub given_leaves : (x : A) (said : Answer A) (state : Writer) (out : List ℕ) → a ≡ given x → said ≡ given x → state ≡ v → out ≡ put log pos bytes → (said ≡ a) × ((state ≡ writer_by a w v) × (out ≡ log_by a log pos bytes))
+  given_leaves x said state out e k s p = (
     k ∙ sym e,
     (
       s ∙ sym (ap (λ (y : Answer A). writer_by y w v) e),
@@ -118,12 +118,12 @@ module _ {A : Type 0} (a : Answer A) (w v : Writer) (log : List ℕ) (pos : ℕ)
 
 -- the same of a record whose bytes and size go by the edition
 module _ (a : Answer (Unit {0})) (log : List ℕ) (w : Writer) (size : Edition → ℕ) (bytes : Edition → List ℕ) where
-  pub record-refused : (n : ℕ) (said : Answer (Unit {0})) (state : Writer) → a ≡ refused n → said ≡ refused n → state ≡ w
+  pub record_refused : (n : ℕ) (said : Answer (Unit {0})) (state : Writer) → a ≡ refused n → said ≡ refused n → state ≡ w
       → (said ≡ a) × ((state ≡ record_writer a w (size (edition_of w))) × (log ≡ record_log a log w (bytes (edition_of w))))
-  record-refused n said state e k s = refused_leaves a w (open_at (edition_of w) (position w + size (edition_of w))) log (position w) (bytes (edition_of w)) n said state e k s
+  record_refused n said state e k s = refused_leaves a w (open_at (edition_of w) (position w + size (edition_of w))) log (position w) (bytes (edition_of w)) n said state e k s
 
-  pub record-given : (ed : Edition) (at : ℕ) (state : Writer) (out : List ℕ) → w ≡ open_at ed at → a ≡ given tt → state ≡ open_at ed (at + size ed) → out ≡ put log at (bytes ed)
+  pub record_given : (ed : Edition) (at : ℕ) (state : Writer) (out : List ℕ) → w ≡ open_at ed at → a ≡ given tt → state ≡ open_at ed (at + size ed) → out ≡ put log at (bytes ed)
       → (given tt ≡ a) × ((state ≡ record_writer a w (size (edition_of w))) × (out ≡ record_log a log w (bytes (edition_of w))))
-  record-given ed at state out o e s p =
-      given-leaves a w (open_at (edition_of w) (position w + size (edition_of w))) log (position w) (bytes (edition_of w)) tt (given tt) state out e refl
+  record_given ed at state out o e s p =
+      given_leaves a w (open_at (edition_of w) (position w + size (edition_of w))) log (position w) (bytes (edition_of w)) tt (given tt) state out e refl
       (s ∙ sym (ap (λ (v : Writer). open_at (edition_of v) (position v + size (edition_of v))) o)) (p ∙ sym (ap (λ (v : Writer). put log (position v) (bytes (edition_of v))) o))

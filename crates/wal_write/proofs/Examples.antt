@@ -19,7 +19,7 @@ use Rattle.wal.specs.declared.Start.{Start}
 use Rattle.wal.specs.declared.Writer.{Writer}
 use Rattle.wal.specs.declared.Writer.TheVariants.{Fresh, Finished}
 use Rattle.wal.proofs.Examples.{slice, seed}
-use Rattle.wal.proofs.RoundTrip.{same-capacity}
+use Rattle.wal.proofs.RoundTrip.{same_capacity}
 use Rattle.wal_write.specs.Calls.{room_in, clear_writer, clear_log, update_writer, update_log, page_update_answer, page_update_writer, page_update_log}
 use Rattle.wal_write.proofs.CallLaws.{begin_given, clear_tests, taken, no_room}
 use Rattle.wal_write.proofs.WriterLaws.{same_length}
@@ -53,22 +53,22 @@ pub record Stands (s : At) (ed : Edition) (pos cap : ℕ) : Type 0 where
   pub whole : capacity s.log ≡ cap
 
 module _ (s : At) (ed : Edition) (pos cap : ℕ) (h : Stands s ed pos cap) where
-  clear-taken : pos + clear_size ed + mark_size ed ≤ cap → next_clear s ≡ given tt
-  clear-taken l =
+  clear_taken : pos + clear_size ed + mark_size ed ≤ cap → next_clear s ≡ given tt
+  clear_taken l =
       clear_tests s.log s.writer
       ∙ taken s.log s.writer true false clear_size (given tt) ed pos h.is_open refl refl (le-leb (pos + clear_size ed + mark_size ed) (capacity s.log) (omega (arith, h.whole)))
 
-  clear-refused : cap < pos + clear_size ed + mark_size ed → next_clear s ≡ refused 13
-  clear-refused l =
+  clear_refused : cap < pos + clear_size ed + mark_size ed → next_clear s ≡ refused 13
+  clear_refused l =
       clear_tests s.log s.writer
       ∙ no_room s.log s.writer true false clear_size (given tt) ed pos h.is_open refl refl (lt-leb (pos + clear_size ed + mark_size ed) (capacity s.log) (omega (arith, h.whole)))
 
   clear_moves : (b : ℕ) → pos + clear_size ed + mark_size ed ≤ cap → Stands (cleared s b) ed (pos + clear_size ed) cap
   clear_moves b l = record {
     is_open =
-        ap (λ (a : Answer (Unit {0})). cond (accepted a) (open_at (edition_of s.writer) (position s.writer + clear_size (edition_of s.writer))) s.writer) (clear-taken l)
+        ap (λ (a : Answer (Unit {0})). cond (accepted a) (open_at (edition_of s.writer) (position s.writer + clear_size (edition_of s.writer))) s.writer) (clear_taken l)
         ∙ ap (λ (v : Writer). open_at (edition_of v) (position v + clear_size (edition_of v))) h.is_open;
-    whole = same-capacity (clear_log s.log s.writer b) s.log (same_length (next_clear s) s.log (position s.writer) (record_of (edition_of s.writer) (clear b))) ∙ h.whole;
+    whole = same_capacity (clear_log s.log s.writer b) s.log (same_length (next_clear s) s.log (position s.writer) (record_of (edition_of s.writer) (clear b))) ∙ h.whole;
   }
 
 clears_fit : (bs : List ℕ) (s : At) (ed : Edition) (pos cap : ℕ) → Stands s ed pos cap → pos + clear_size ed * length bs + mark_size ed ≤ cap
@@ -80,7 +80,7 @@ clears_fit (b ∷ bs) s ed pos cap h l =
     let fits : pos + clear_size ed + clear_size ed * length bs + mark_size ed ≤ cap = omega arith in
     let rest = clears_fit bs (cleared s b) ed (pos + clear_size ed) cap (clear_moves s ed pos cap h b (omega arith)) fits in
     let z : pos + clear_size ed + clear_size ed * length bs ≡ pos + clear_size ed * suc (length bs) = omega arith in (
-      ap₂ (λ (x y : Bool). x && y) (ap accepted (clear-taken s ed pos cap h (omega arith))) rest.0,
+      ap₂ (λ (x y : Bool). x && y) (ap accepted (clear_taken s ed pos cap h (omega arith))) rest.0,
       record { is_open = rest.1.is_open ∙ ap (open_at ed) z; whole = rest.1.whole },
     )
 
@@ -93,10 +93,10 @@ clears_fill s start bs e fits full =
     let begins : begin_answer s.log ≡ given tt = begin_given s.log (omega arith) in
     let stands : Stands (begun s start) ed (start_size ed) 4096 = record {
       is_open = ap (λ (a : Answer (Unit {0})). cond (accepted a) (open_at ed (start_size ed)) s.writer) begins;
-      whole = same-capacity (begin_log s.log start) s.log (same_length (begin_answer s.log) s.log 0 (start_record start)) ∙ e;
+      whole = same_capacity (begin_log s.log start) s.log (same_length (begin_answer s.log) s.log 0 (start_record start)) ∙ e;
     } in
     let all = clears_fit bs (begun s start) ed (start_size ed) 4096 stands fits in
-    (all.0, clear-refused (all_cleared (begun s start) bs) ed (start_size ed + clear_size ed * length bs) 4096 all.1 full)
+    (all.0, clear_refused (all_cleared (begun s start) bs) ed (start_size ed + clear_size ed * length bs) 4096 all.1 full)
 
 pub clears_by_hand : (s : At) (sync : ℕ) (bs : List ℕ) → capacity s.log ≡ 4096 → length bs ≡ 454
     → (all_taken (begun s (edition_one sync)) bs ≡ true) × (next_clear (all_cleared (begun s (edition_one sync)) bs) ≡ refused 13)

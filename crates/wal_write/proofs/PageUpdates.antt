@@ -17,7 +17,7 @@ use Rattle.page_diff.specs.Diff.{slots, count_of, reserved}
 use Rattle.page_diff.specs.Pack.{node_at, table_of}
 use Rattle.wal.specs.Log.{Entry, update, record_of, update_size}
 use Rattle.wal.specs.Writer.{edition_of, update_answer, record_log, record_writer}
-use Rattle.wal.specs.Run.{Wide, Rows, Handed, Run, with-update}
+use Rattle.wal.specs.Run.{Wide, Rows, Handed, Run, with_update_lem}
 use Rattle.wal.specs.declared.Edition.{Edition}
 use Rattle.wal.specs.declared.Start.{Start}
 use Rattle.wal.specs.declared.Writer.{Writer}
@@ -59,7 +59,7 @@ run_sized : (log₀ : List ℕ) (start : Start) (w : Writer) (log : List ℕ) (e
     → Run log₀ start (record_writer a w (update_size (edition_of w) n)) (record_log a log w (record_of (edition_of w) (update id ws ns elided b))) (es ++ (update id ws ns elided b ∷ []))
 run_sized log₀ start w log es id ws ns elided b n a run h long e ok =
     subst₂ (λ (k : ℕ) (x : Answer (Unit {0})). accepted x ≡ true → Run log₀ start (record_writer x w (update_size (edition_of w) k)) (record_log x log w (record_of (edition_of w) (update id ws ns elided b))) (es ++ (update id ws ns elided b ∷ [])))
-    long (ap (update_answer log w ws) long ∙ sym e) (with-update w log es id ws ns elided b run h) ok
+    long (ap (update_answer log w ws) long ∙ sym e) (with_update_lem w log es id ws ns elided b run h) ok
 
 -- ---- by one lent a table: as many nodes as it takes are there, whatever stands past them
 taken-length : (ns : List (List ℕ)) (n : ℕ) → Rows ns n → length (take n ns) ≡ n
@@ -70,8 +70,8 @@ taken-length ns n rows = go (dec_le n (length ns))
     go (no p) = absurd (omega (arith, row_there ns (length ns) (rows (length ns) (lt_of_not-le p))))
 
 module _ (id ws : List ℕ) (nodes : List (List ℕ)) (held : ℕ) (elided : List ℕ) (b : ℕ) (wide : Wide id ws elided b) (rows : Rows nodes held) where
-  pub table-handed : held ≡ count_of ws → reserved ws ≡ false → Handed id ws (take held nodes) elided b
-  table-handed counted plain =
+  pub table_handed : held ≡ count_of ws → reserved ws ≡ false → Handed id ws (take held nodes) elided b
+  table_handed counted plain =
       let long : length (take held nodes) ≡ held = taken-length nodes held rows in
       record {
         wide = wide;
@@ -80,30 +80,30 @@ module _ (id ws : List ℕ) (nodes : List (List ℕ)) (held : ℕ) (elided : Lis
         rows = λ i h. let small : i < held = omega arith in ap length (get_or-take held nodes i [] small) ∙ rows i small;
       }
 
-  pub run-update : (log₀ : List ℕ) (start : Start) (w : Writer) (log : List ℕ) (es : List Entry) → Run log₀ start w log es → accepted (update_answer log w ws held) ≡ true
+  pub run_update : (log₀ : List ℕ) (start : Start) (w : Writer) (log : List ℕ) (es : List Entry) → Run log₀ start w log es → accepted (update_answer log w ws held) ≡ true
       → Run log₀ start (update_writer log w ws held) (update_log log w id ws nodes held elided b) (es ++ (update id ws (take held nodes) elided b ∷ []))
-  run-update log₀ start w log es run ok =
+  run_update log₀ start w log es run ok =
       let tests = accepted_tests log w (eqb held (count_of ws)) (reserved ws) (λ ed. update_size ed held) (ap accepted (sym (update_tests log w ws held)) ∙ ok) in
-      run_sized log₀ start w log es id ws (take held nodes) elided b held (update_answer log w ws held) run (table-handed (eqb-true held (count_of ws) tests.0) tests.1) (taken-length nodes held rows) refl ok
+      run_sized log₀ start w log es id ws (take held nodes) elided b held (update_answer log w ws held) run (table_handed (eqb-true held (count_of ws) tests.0) tests.1) (taken-length nodes held rows) refl ok
 
 -- ---- by one lent a page: its nodes are nodes
-page-rows : (page ss : List ℕ) (i : ℕ) → i < length (map (node_at page) ss) → length (get_or (map (node_at page) ss) i []) ≡ 32
-page-rows page [] i h = absurd (omega arith)
-page-rows page (s ∷ ss) zero h = block-length 32 page (32 * s)
-page-rows page (s ∷ ss) (suc i) h = page-rows page ss i (omega arith)
+page_rows : (page ss : List ℕ) (i : ℕ) → i < length (map (node_at page) ss) → length (get_or (map (node_at page) ss) i []) ≡ 32
+page_rows page [] i h = absurd (omega arith)
+page_rows page (s ∷ ss) zero h = block-length 32 page (32 * s)
+page_rows page (s ∷ ss) (suc i) h = page_rows page ss i (omega arith)
 
 module _ (id ws page : List ℕ) (b : ℕ) (wide : Wide id ws (block 8 page 4056) b) where
-  pub page-handed : reserved ws ≡ false → Handed id ws (map (node_at page) (slots ws)) (block 8 page 4056) b
-  page-handed plain = record {
+  pub page_handed : reserved ws ≡ false → Handed id ws (map (node_at page) (slots ws)) (block 8 page 4056) b
+  page_handed plain = record {
     wide = wide;
     plain = plain;
     counted = length-map (slots ws) (node_at page);
-    rows = page-rows page (slots ws);
+    rows = page_rows page (slots ws);
   }
 
-  pub run-page : (log₀ : List ℕ) (start : Start) (w : Writer) (log : List ℕ) (es : List Entry) → Run log₀ start w log es → accepted (page_update_answer log w ws page) ≡ true
+  pub run_page : (log₀ : List ℕ) (start : Start) (w : Writer) (log : List ℕ) (es : List Entry) → Run log₀ start w log es → accepted (page_update_answer log w ws page) ≡ true
       → Run log₀ start (page_update_writer log w ws page) (page_update_log log w id ws page b) (es ++ (page_update id ws page b ∷ []))
-  run-page log₀ start w log es run ok =
+  run_page log₀ start w log es run ok =
       let tests = accepted_tests log w (eqb (length page) 4096) (reserved ws) (λ ed. update_size ed (count_of ws)) (ap accepted (sym (page_tests log w ws page)) ∙ ok) in
-      run_sized log₀ start w log es id ws (map (node_at page) (slots ws)) (block 8 page 4056) b (count_of ws) (page_update_answer log w ws page) run (page-handed tests.1)
+      run_sized log₀ start w log es id ws (map (node_at page) (slots ws)) (block 8 page 4056) b (count_of ws) (page_update_answer log w ws page) run (page_handed tests.1)
       (length-map (slots ws) (node_at page)) (page_answer log w ws page (eqb-true (length page) 4096 tests.0)) ok

@@ -13,13 +13,13 @@ use Rattle.wal_write.specs.declared.Written.{Written}
 use Rattle.wal_write.proofs.WriterLaws.{written_one}
 
 module _ (log : List ℕ) (w : Writer) (id ws : List ℕ) (ns ms : List (List ℕ)) (held : ℕ) (elided : List ℕ) (b : ℕ) (same : take held ns ≡ take held ms) where
-  pub update-ignores : update_log log w id ws ns held elided b ≡ update_log log w id ws ms held elided b
-  update-ignores = ap (λ (l : List (List ℕ)). record_log (update_answer log w ws held) log w (record_of (edition_of w) (update id ws l elided b))) same
+  pub update_ignores : update_log log w id ws ns held elided b ≡ update_log log w id ws ms held elided b
+  update_ignores = ap (λ (l : List (List ℕ)). record_log (update_answer log w ws held) log w (record_of (edition_of w) (update id ws l elided b))) same
 
   -- of the calls: one answer, one state, one log
-  pub updates-alike : (r s : Written) (out end : List ℕ) → Updates log w id ws ns held elided b r out → Updates log w id ws ms held elided b s end → (r ≡ s) × (out ≡ end)
-  updates-alike r s out end p q = (written_one r s (p.0 ∙ sym q.0) (p.1.0 ∙ sym q.1.0), p.1.1 ∙ update-ignores ∙ sym q.1.1)
+  pub updates_alike : (r s : Written) (out end : List ℕ) → Updates log w id ws ns held elided b r out → Updates log w id ws ms held elided b s end → (r ≡ s) × (out ≡ end)
+  updates_alike r s out end p q = (written_one r s (p.0 ∙ sym q.0) (p.1.0 ∙ sym q.1.0), p.1.1 ∙ update_ignores ∙ sym q.1.1)
 
 -- such tables: a node, and then zeros or other bytes
-pub zeros-or-ones : (log : List ℕ) (w : Writer) (id ws elided : List ℕ) (b : ℕ) → update_log log w id ws (table_then 0) 1 elided b ≡ update_log log w id ws (table_then 1) 1 elided b
-zeros-or-ones log w id ws elided b = update-ignores log w id ws (table_then 0) (table_then 1) 1 elided b refl
+pub zeros_or_ones : (log : List ℕ) (w : Writer) (id ws elided : List ℕ) (b : ℕ) → update_log log w id ws (table_then 0) 1 elided b ≡ update_log log w id ws (table_then 1) 1 elided b
+zeros_or_ones log w id ws elided b = update_ignores log w id ws (table_then 0) (table_then 1) 1 elided b refl

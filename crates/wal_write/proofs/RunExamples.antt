@@ -21,7 +21,7 @@ use Rattle.wal.specs.declared.Start.{Start}
 use Rattle.wal.specs.declared.Writer.TheVariants.{Fresh, Finished}
 use Rattle.wal_write.specs.Calls.{clear_log, update_log, page_update_answer, page_update, page_update_log, Begins, Clears, Updates, UpdatesPage, Finishes}
 use Rattle.wal_write.specs.declared.Written.{Written}
-use Rattle.wal_write.proofs.Runs.{after_begin, after-clear, after-update, after-page-update, reads-back}
+use Rattle.wal_write.proofs.Runs.{after_begin, after_clear, after_update, after_page_update, reads_back}
 
 -- a slice of one page; what the update hands over: slots 0 and 2, two nodes and a table that goes on with nines
 abbrev slice : List ℕ
@@ -67,14 +67,14 @@ updated = update id words (replicate 32 7 ∷ replicate 32 8 ∷ []) elided 9
 
 begins : Begins slice Fresh start (done 5) log₁
 unfolding begin_answer
-begins = (refl, (refl, refl), record { number = lit< tt; seed-long = refl })
+begins = (refl, (refl, refl), record { number = lit< tt; seed_long = refl })
 
 clears : Clears log₁ (open_at One 5) 3 (done 14) log₂
 unfolding begin_answer clear_answer put
 clears = (refl, (refl, refl), lit< tt)
 
 wide : Wide id words elided 9
-wide = record { change = record { id-long = refl; two-words = refl; low_word = lit< tt; high_word = lit< tt }; elided-long = refl; bucket = lit< tt }
+wide = record { change = record { id_long = refl; two_words = refl; low_word = lit< tt; high_word = lit< tt }; elided_long = refl; bucket = lit< tt }
 
 rows : Rows table 2
 rows zero h = refl
@@ -97,17 +97,17 @@ finishes = (refl, (refl, refl))
 one_call : Run slice start (open_at One 5) log₁ []
 one_call = after_begin slice Fresh start (done 5) log₁ begins refl
 
-two-calls : Run slice start (open_at One 14) log₂ (clear 3 ∷ [])
-two-calls = after-clear slice start (open_at One 5) log₁ [] one_call (done 14) log₂ 3 clears refl
+two_calls : Run slice start (open_at One 14) log₂ (clear 3 ∷ [])
+two_calls = after_clear slice start (open_at One 5) log₁ [] one_call (done 14) log₂ 3 clears refl
 
-three-calls : Run slice start (open_at One 143) log₃ (clear 3 ∷ updated ∷ [])
-three-calls = after-update slice start (open_at One 14) log₂ (clear 3 ∷ []) two-calls (done 143) log₃ id words table 2 elided 9 updates refl
+three_calls : Run slice start (open_at One 143) log₃ (clear 3 ∷ updated ∷ [])
+three_calls = after_update slice start (open_at One 14) log₂ (clear 3 ∷ []) two_calls (done 143) log₃ id words table 2 elided 9 updates refl
 
-pub four-calls : Run slice start (open_at One 272) log₄ (clear 3 ∷ updated ∷ page_update id words page 9 ∷ [])
-four-calls = after-page-update slice start (open_at One 143) log₃ (clear 3 ∷ updated ∷ []) three-calls (done 272) log₄ id words page 9 pages refl
+pub four_calls : Run slice start (open_at One 272) log₄ (clear 3 ∷ updated ∷ page_update id words page 9 ∷ [])
+four_calls = after_page_update slice start (open_at One 143) log₃ (clear 3 ∷ updated ∷ []) three_calls (done 272) log₄ id words page 9 pages refl
 
 -- and what they made reads back
 pub four_read_back : (rule : AfterEnd) → read_log rule (take 4096 (finish_log log₄ (open_at One 272))) ≡ record { entries = clear 3 ∷ updated ∷ page_update id words page 9 ∷ []; at = 272; stop = given tt }
 unfolding records_of record_of flat block slots_below marked digit
 four_read_back rule =
-    reads-back slice start (open_at One 272) log₄ (clear 3 ∷ updated ∷ page_update id words page 9 ∷ []) four-calls (record { answer = num.Is 4096; writer = Finished 4096 }) (finish_log log₄ (open_at One 272)) finishes rule
+    reads_back slice start (open_at One 272) log₄ (clear 3 ∷ updated ∷ page_update id words page 9 ∷ []) four_calls (record { answer = num.Is 4096; writer = Finished 4096 }) (finish_log log₄ (open_at One 272)) finishes rule

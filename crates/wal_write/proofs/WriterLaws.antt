@@ -10,9 +10,9 @@ use lib.Dec.{leb, eqb}
 use lib.ListN.{length, get_or, replicate, length-append, length-replicate}
 use borrow.Author.Tests.{le-leb, leb-true}
 use Rattle.answers.specs.Answers.{Answer, given, refused, accepted, outcome_said, number_said}
-use Rattle.answers.proofs.Laws.{outcome-one, number-one}
+use Rattle.answers.proofs.Laws.{outcome_one, number_one}
 use Rattle.blocks.specs.Blocks.{put}
-use Rattle.blocks.proofs.Laws.{put-left, put_right, put-length}
+use Rattle.blocks.proofs.Laws.{put_left, put_right, put-length}
 use Rattle.page_diff.specs.Diff.{count_of, reserved}
 use Rattle.wal.specs.Log.{clear, update, mark, mark_size, record_of, start_record, start_size, clear_size, update_size, finished_length, end_record}
 use Rattle.wal.specs.Writer.{open_at, capacity, position, edition_of, log_by, begin_answer, begin_writer, begin_log, clear_answer, update_answer, record_log, record_writer, finish_answer, finish_log}
@@ -23,7 +23,7 @@ use Rattle.wal.specs.declared.Start.{Start}
 use Rattle.wal.specs.declared.Writer.{Writer}
 use Rattle.wal.specs.declared.Writer.TheVariants.{Fresh, Open, Finished}
 use Rattle.wal.proofs.Records.{mark-length, clear-length, update-length}
-use Rattle.wal.proofs.RoundTrip.{same-capacity, start-length}
+use Rattle.wal.proofs.RoundTrip.{same_capacity, start-length}
 use Rattle.wal_write.specs.Calls.{clear_writer, clear_log, update_writer, page_update_answer, page_update_writer}
 use Rattle.wal_write.specs.declared.Written.{Written}
 use Rattle.wal_write.specs.declared.FinishedAnswer.{FinishedAnswer}
@@ -55,32 +55,32 @@ empty-length One = refl
 empty-length Two = refl
 
 module _ (log out : List ℕ) (w : Writer) (same : length out ≡ length log) where
-  pub finish-after-begin : (ed : Edition) → accepted (begin_answer log) ≡ true → finish_answer out (begin_writer log w ed) ≡ given 4096
+  pub finish_after_begin : (ed : Edition) → accepted (begin_answer log) ≡ true → finish_answer out (begin_writer log w ed) ≡ given 4096
   unfolding begin_answer
-  finish-after-begin ed e =
+  finish_after_begin ed e =
       ap (λ (t : Bool). finish_answer out (cond t (open_at ed (start_size ed)) w)) e
-      ∙ finish_at ed out (start_size ed) (omega (arith, empty-length ed, enough (leb 4096 (capacity log)) refl e, same-capacity out log same))
+      ∙ finish_at ed out (start_size ed) (omega (arith, empty-length ed, enough (leb 4096 (capacity log)) refl e, same_capacity out log same))
       ∙ ap given (empty-length ed)
     where
       enough : (t : Bool) → leb 4096 (capacity log) ≡ t → accepted {A = Unit {0}} (cond t (given tt) (refused 13)) ≡ true → 4096 ≤ capacity log
       enough true h e = leb-true 4096 (capacity log) h
       enough false h e = absurd (true≢false (sym e))
 
-  finish-after : (a : Answer (Unit {0})) (fit bad : Bool) (size : Edition → ℕ) → a ≡ tested log w fit bad size (given tt) → accepted a ≡ true
+  finish_after : (a : Answer (Unit {0})) (fit bad : Bool) (size : Edition → ℕ) → a ≡ tested log w fit bad size (given tt) → accepted a ≡ true
       → finish_answer out (record_writer a w (size (edition_of w))) ≡ given (finished_length (edition_of w) (position w + size (edition_of w)))
-  finish-after a fit bad size t e =
+  finish_after a fit bad size t e =
       let ed : Edition = edition_of w in
       ap (λ (b : Bool). finish_answer out (cond b (open_at ed (position w + size ed)) w)) e
-      ∙ finish_at ed out (position w + size ed) (omega (arith, (accepted_room log w fit bad size tt (ap accepted (sym t) ∙ e)).1, same-capacity out log same))
+      ∙ finish_at ed out (position w + size ed) (omega (arith, (accepted_room log w fit bad size tt (ap accepted (sym t) ∙ e)).1, same_capacity out log same))
 
-  pub finish-after-clear : accepted (clear_answer log w) ≡ true → finish_answer out (clear_writer log w) ≡ given (finished_length (edition_of w) (position w + clear_size (edition_of w)))
-  finish-after-clear = finish-after (clear_answer log w) true false clear_size (clear_tests log w)
+  pub finish_after_clear : accepted (clear_answer log w) ≡ true → finish_answer out (clear_writer log w) ≡ given (finished_length (edition_of w) (position w + clear_size (edition_of w)))
+  finish_after_clear = finish_after (clear_answer log w) true false clear_size (clear_tests log w)
 
-  pub finish-after-update : (ws : List ℕ) (held : ℕ) → accepted (update_answer log w ws held) ≡ true → finish_answer out (update_writer log w ws held) ≡ given (finished_length (edition_of w) (position w + update_size (edition_of w) held))
-  finish-after-update ws held = finish-after (update_answer log w ws held) (eqb held (count_of ws)) (reserved ws) (λ ed. update_size ed held) (update_tests log w ws held)
+  pub finish_after_update : (ws : List ℕ) (held : ℕ) → accepted (update_answer log w ws held) ≡ true → finish_answer out (update_writer log w ws held) ≡ given (finished_length (edition_of w) (position w + update_size (edition_of w) held))
+  finish_after_update ws held = finish_after (update_answer log w ws held) (eqb held (count_of ws)) (reserved ws) (λ ed. update_size ed held) (update_tests log w ws held)
 
-  pub finish-after-page : (ws page : List ℕ) → accepted (page_update_answer log w ws page) ≡ true → finish_answer out (page_update_writer log w ws page) ≡ given (finished_length (edition_of w) (position w + update_size (edition_of w) (count_of ws)))
-  finish-after-page ws page = finish-after (page_update_answer log w ws page) (eqb (length page) 4096) (reserved ws) (λ ed. update_size ed (count_of ws)) (page_tests log w ws page)
+  pub finish_after_page : (ws page : List ℕ) → accepted (page_update_answer log w ws page) ≡ true → finish_answer out (page_update_writer log w ws page) ≡ given (finished_length (edition_of w) (position w + update_size (edition_of w) (count_of ws)))
+  finish_after_page ws page = finish_after (page_update_answer log w ws page) (eqb (length page) 4096) (reserved ws) (λ ed. update_size ed (count_of ws)) (page_tests log w ws page)
 
 -- ---- "zeros to a multiple of 4,096": the finished length is the smallest multiple that holds the mark of the end, and within the capacity
 pub record SmallestPages (end n : ℕ) : Type 0 where
@@ -108,24 +108,24 @@ module _ {A : Type 0} (a : Answer A) (log : List ℕ) (pos : ℕ) (bytes : List 
   outside i h = go (accepted a)
     where
       go : (t : Bool) → get_or (cond t (put log pos bytes) log) i 0 ≡ get_or log i 0
-      go true = ⊎_elim (put-left log pos bytes i) (put_right log pos bytes i) h
+      go true = ⊎_elim (put_left log pos bytes i) (put_right log pos bytes i) h
       go false = refl
 
   -- the same, where the width is known by an equation
-  outside-sized : (n : ℕ) → length bytes ≡ n → (i : ℕ) → (i < pos) ⊎ (pos + n ≤ i) → get_or (log_by a log pos bytes) i 0 ≡ get_or log i 0
-  outside-sized n e i h = outside i (⊎_elim (λ l. inl l) (λ l. inr (omega arith)) h)
+  outside_sized : (n : ℕ) → length bytes ≡ n → (i : ℕ) → (i < pos) ⊎ (pos + n ≤ i) → get_or (log_by a log pos bytes) i 0 ≡ get_or log i 0
+  outside_sized n e i h = outside i (⊎_elim (λ l. inl l) (λ l. inr (omega arith)) h)
 
 pub begin_outside : (log : List ℕ) (start : Start) → WideStart start → (i : ℕ) → start_size start.edition ≤ i → get_or (begin_log log start) i 0 ≡ get_or log i 0
-begin_outside log start wide i h = outside-sized (begin_answer log) log 0 (start_record start) (start_size start.edition) (start-length start wide) i (inr (omega arith))
+begin_outside log start wide i h = outside_sized (begin_answer log) log 0 (start_record start) (start_size start.edition) (start-length start wide) i (inr (omega arith))
 
 pub clear_outside : (log : List ℕ) (w : Writer) (b i : ℕ) → (i < position w) ⊎ (position w + clear_size (edition_of w) ≤ i) → get_or (clear_log log w b) i 0 ≡ get_or log i 0
-clear_outside log w b = outside-sized (clear_answer log w) log (position w) (record_of (edition_of w) (clear b)) (clear_size (edition_of w)) (clear-length (edition_of w) b)
+clear_outside log w b = outside_sized (clear_answer log w) log (position w) (record_of (edition_of w) (clear b)) (clear_size (edition_of w)) (clear-length (edition_of w) b)
 
 -- an update of any kind
 pub update_outside : (a : Answer (Unit {0})) (log : List ℕ) (w : Writer) (id ws : List ℕ) (ns : List (List ℕ)) (elided : List ℕ) (b : ℕ) → Handed id ws ns elided b
     → (i : ℕ) → (i < position w) ⊎ (position w + update_size (edition_of w) (length ns) ≤ i) → get_or (record_log a log w (record_of (edition_of w) (update id ws ns elided b))) i 0 ≡ get_or log i 0
 update_outside a log w id ws ns elided b h =
-    outside-sized a log (position w) (record_of (edition_of w) (update id ws ns elided b)) (update_size (edition_of w) (length ns)) (update-length (edition_of w) id ws ns elided b h)
+    outside_sized a log (position w) (record_of (edition_of w) (update id ws ns elided b)) (update_size (edition_of w) (length ns)) (update-length (edition_of w) id ws ns elided b h)
 
 -- finish: the slice before the end, and the slice past the length that is answered
 pub finish_outside : (log : List ℕ) (w : Writer) (i : ℕ) → (i < position w) ⊎ (finished_length (edition_of w) (position w) ≤ i) → get_or (finish_log log w) i 0 ≡ get_or log i 0
@@ -133,11 +133,11 @@ finish_outside log w i h =
     let ed : Edition = edition_of w in
     let n : ℕ = finished_length ed (position w) - (position w + mark_size ed) in
     let long : length (end_record ed (position w)) ≡ mark_size ed + n = length-append (mark ed 2) (replicate n 0) ∙ ap₂ (λ (j k : ℕ). j + k) (mark-length ed 2) (length-replicate {A = ℕ} n 0) in
-    outside-sized (finish_answer log w) log (position w) (end_record ed (position w)) (mark_size ed + n) long i (⊎_elim (λ l. inl l) (λ l. inr (omega arith)) h)
+    outside_sized (finish_answer log w) log (position w) (end_record ed (position w)) (mark_size ed + n) long i (⊎_elim (λ l. inl l) (λ l. inr (omega arith)) h)
 
 -- ---- two answers that a contract allows for one input are equal
 pub written_one : (a b : Written) → outcome_said a.outcome ≡ outcome_said b.outcome → a.writer ≡ b.writer → a ≡ b
-written_one a b e f = ap₂ (λ o w. record { outcome = o; writer = w }) (outcome-one a.outcome b.outcome e) f
+written_one a b e f = ap₂ (λ o w. record { outcome = o; writer = w }) (outcome_one a.outcome b.outcome e) f
 
-pub finished-one : (a b : FinishedAnswer) → number_said a.answer ≡ number_said b.answer → a.writer ≡ b.writer → a ≡ b
-finished-one a b e f = ap₂ (λ n w. record { answer = n; writer = w }) (number-one a.answer b.answer e) f
+pub finished_one : (a b : FinishedAnswer) → number_said a.answer ≡ number_said b.answer → a.writer ≡ b.writer → a ≡ b
+finished_one a b e f = ap₂ (λ n w. record { answer = n; writer = w }) (number_one a.answer b.answer e) f

@@ -10,12 +10,12 @@ use borrow.Author.Rules.{rules}
 use Rattle.wal.specs.Reader.{Next, ended, next_by}
 use Rattle.wal.specs.declared.AfterEnd.TheVariants.{Zeros, Tolerant}
 use Rattle.wal.specs.declared.Edition.{Edition}
-use Rattle.wal.proofs.Endings.{next-differs}
+use Rattle.wal.proofs.Endings.{next_differs}
 use Rattle.wal_read.specs.Head.{head_of, head_said}
 use Rattle.wal_read.specs.declared.Head.{Head}
 use Rattle.wal_read.specs.declared.Head.TheVariants as head
 use Rattle.wal_read.specs.contracts.Head as HeadT
-use Rattle.wal_read.proofs.Answered.{head-one}
+use Rattle.wal_read.proofs.Answered.{head_one}
 use Rattle.wal_read.proofs.ReadLaws.{head_end}
 use Rattle.numbers.specs.Numbers.{edition_of}
 use Rattle.bitbox.specs.Words.{Read}
@@ -44,7 +44,7 @@ module _ (c : tie.After-head_at_tolerant-head) where
   said = c.head_at_tolerant-head.ensures ∙ ap (λ (e : Edition). head_of (next_by Tolerant e log at)) c.edition_of-ed.ensures
 
   not_end : OneOf (0 ∷ 1 ∷ 3 ∷ []) (tag_of HeadT.the_type c.head_at_tolerant-head.result) → next_by Tolerant ed log at ≡ ended → ⊥
-  not_end o e = none (tag_of HeadT.the_type c.head_at_tolerant-head.result) (ap (tag_of HeadT.the_type) (head-one c.head_at_tolerant-head.result head.End (said ∙ ap head_of e))) o
+  not_end o e = none (tag_of HeadT.the_type c.head_at_tolerant-head.result) (ap (tag_of HeadT.the_type) (head_one c.head_at_tolerant-head.result head.End (said ∙ ap head_of e))) o
     where
       none : (t : ℕ) → t ≡ 2 → (t ≡ 0) ⊎ ((t ≡ 1) ⊎ (t ≡ 3)) → ⊥
       none t z = ⊎_elim (λ (x : t ≡ 0). omega arith) (⊎_elim (λ (x : t ≡ 1). omega arith) (λ (x : t ≡ 3). omega arith))
@@ -74,7 +74,7 @@ returns-2 c =
     let other = c.before in
     let seen = other.before in
     subst (λ (n : Next). Read n (at seen) c.bitbox_reader_next.result)
-    (⊎_elim (λ e. e) (λ d. absurd (not_end seen other.in_default.in_default-own.keys2 d.0)) (next-differs Zeros (ed seen) (log seen) (at seen))) c.bitbox_reader_next.ensures
+    (⊎_elim (λ e. e) (λ d. absurd (not_end seen other.in_default.in_default-own.keys2 d.0)) (next_differs Zeros (ed seen) (log seen) (at seen))) c.bitbox_reader_next.ensures
 
 pub bitbox_reader_next_tolerant_spec : {M : Type 1} → statement M
 bitbox_reader_next_tolerant_spec =

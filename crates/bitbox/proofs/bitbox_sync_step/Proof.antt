@@ -36,7 +36,7 @@ same-length-4 c = search rules
 
 returns : tie.Need-returns
 returns c =
-    let at-step = c.before.before.before.before.before.before.before.before.before.before.before in
+    let at_step = c.before.before.before.before.before.before.before.before.before.before.before in
     let at-state-of = c.before.before.before.before.before.before.before.before.before.before.before.before in
     let args = c.args in
     let m = mem_of args.tags.now args.marks.now args.cells.now args.log.now in
@@ -45,11 +45,11 @@ returns c =
     record {
       answer =
           c.of_taken.ensures
-          ∙ ap (λ (a : Answer (ℕ × ℕ)). step_words a c.of_state.result) at-step.step-s.ensures.taken
-          ∙ ap (λ (s : StepState). step_words (page_number at-state-of.state_of.result (effect_of at-state-of.state_of.result m page k)) s) (c.of_state.ensures ∙ ap state_words at-step.step-s.ensures.state)
+          ∙ ap (λ (a : Answer (ℕ × ℕ)). step_words a c.of_state.result) at_step.step-s.ensures.taken
+          ∙ ap (λ (s : StepState). step_words (page_number at-state-of.state_of.result (effect_of at-state-of.state_of.result m page k)) s) (c.of_state.ensures ∙ ap state_words at_step.step-s.ensures.state)
           ∙ ap (λ (s : SyncState). step_words (page_number s (effect_of s m page k)) (state_words (state_by (effect_of s m page k) s k))) at-state-of.state_of.ensures;
-      memory = at-step.step-s.ensures.memory ∙ ap (λ (s : SyncState). mem_by (effect_of s m page k) s m page k) at-state-of.state_of.ensures;
-      wide = at-step.step-s.ensures.wide;
+      memory = at_step.step-s.ensures.memory ∙ ap (λ (s : SyncState). mem_by (effect_of s m page k) s m page k) at-state-of.state_of.ensures;
+      wide = at_step.step-s.ensures.wide;
     }
 
 pub bitbox_sync_step_spec : {M : Type 1} → statement M

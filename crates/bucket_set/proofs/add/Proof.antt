@@ -5,7 +5,7 @@ use native.Mathlib.Omega.{arith}
 use lib.Bits.{bit_or}
 use lib.ListN.{get_or, set}
 use Rattle.bucket_set.specs.Numbers.{with_number}
-use Rattle.bucket_set.proofs.Laws.{one_shifted, past-add}
+use Rattle.bucket_set.proofs.Laws.{one_shifted, past_add}
 use borrow.Author.Rules.{rules}
 use Rattle.bucket_set.proofs.add.Statement.{statement}
 use Rattle.bucket_set.proofs.add.Tie as tie
@@ -36,7 +36,7 @@ returns c =
     ap (λ (x : ℕ). set ws (a.i / 64) (bit_or (get_or ws (a.i / 64) 0) x)) (one_shifted (a.i % 64) (omega arith))
 
 returns-2 : tie.Need-returns-else-w-set
-returns-2 c = let a = c.before.args in sym (past-add a.set.now a.i (omega (arith, c.if-w-set.false)))
+returns-2 c = let a = c.before.args in sym (past_add a.set.now a.i (omega (arith, c.if-w-set.false)))
 
 pub add_spec : {M : Type 1} → statement M
 add_spec =

@@ -1,7 +1,7 @@
 -- A bucket more of the first pass. Assumes nothing.
 use Rattle.std.proofs.Common.{◌≡◌, sym, ◌∙◌, arith, true, ◌-◌, get_or}
 use mathlib.Core.Bool.{true≢false}
-use Rattle.label_search.proofs.Passes.{mark-turn}
+use Rattle.label_search.proofs.Passes.{mark_turn}
 use Rattle.label_search.proofs.mark_block.Goals.{then-note_label, else-note_label}
 use Rattle.label_search.proofs.mark_block.Goals as goal
 
@@ -20,5 +20,5 @@ loop-b-preserved c =
     ] in (
       omega (arith, l.invariant.0),
       omega (arith, c.loop-b-test.true),
-      mark-turn a.image.now a.n a.classes a.class l.b key (keys.ensures.1 l.b l.invariant.0 c.loop-b-test.true) l.seen l.suspects c.note_label.new.seen c.note_label.new.suspects l.some some r l.invariant.2 c.note_label.ensures on.0 on.1,
+      mark_turn a.image.now a.n a.classes a.class l.b key (keys.ensures.1 l.b l.invariant.0 c.loop-b-test.true) l.seen l.suspects c.note_label.new.seen c.note_label.new.suspects l.some some r l.invariant.2 c.note_label.ensures on.0 on.1,
     )

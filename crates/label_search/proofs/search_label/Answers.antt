@@ -6,7 +6,7 @@ use Rattle.blocks.proofs.Same.{same_equal}
 use Rattle.ht_file.specs.Places.{image_fits, start_in}
 use Rattle.ht_file.proofs.Laws.{image_fits_facts, start_is}
 use Rattle.probe.specs.Path.{page_end}
-use Rattle.label_search.proofs.Labels.{label_within, end_read, labelled-none, labelled-next, labelled_by}
+use Rattle.label_search.proofs.Labels.{label_within, end_read, labelled_none, labelled_next, labelled_by}
 use Rattle.label_search.proofs.search_label.Goals.{then-is_full+else-ends_in, else-is_full}
 use Rattle.label_search.proofs.search_label.Goals as goal
 
@@ -23,7 +23,7 @@ module _ (img : List ℕ) (n b : ℕ) (fits : image_fits n (length img) ≡ true
       ap₂ same_bytes (sym (end_read img n j y (image_fits_facts n (length img) fits).1 (omega (arith, l, less)) e)) (sym label_is) ∙ sym q ∙ d
 
 pub loop-j-init : goal.loop-j-init
-loop-j-init c = let a = c.args in (omega arith, labelled-none a.image.now a.n (page_end a.image.now a.n a.b))
+loop-j-init c = let a = c.args in (omega arith, labelled_none a.image.now a.n (page_end a.image.now a.n a.b))
 
 pub returns-then-ends_in : goal.returns-then-ends_in
 returns-then-ends_in c =
@@ -42,7 +42,7 @@ loop-j-preserved c =
     let other = same_bytes (page_end a.image.now a.n j) l in
     let here = c.is_full.ensures in (
       omega (arith, c.loop-j-test.true),
-      labelled-next a.image.now a.n l j
+      labelled_next a.image.now a.n l j
           ∙ ap₂ ◌||◌ c.loop-j.invariant.1
           (elim c.if-is_full.branch [
             | then-is_full+else-ends_in w ↦ ap₂ ◌&&◌ (sym here ∙ w.if-is_full.true)

@@ -2,7 +2,7 @@
 use Rattle.std.proofs.Common.{◌≡◌, sym, ◌∙◌, arith, true, false, ◌-◌, get_or}
 use mathlib.Core.Bool.{true≢false}
 use Rattle.label_search.specs.Labels.{doubled}
-use Rattle.label_search.proofs.Passes.{seek-turn}
+use Rattle.label_search.proofs.Passes.{seek_turn}
 use Rattle.label_search.proofs.seek_block.Goals.{then-seek_label+else-is_doubled, else-seek_label}
 use Rattle.label_search.proofs.seek_block.Goals as goal
 
@@ -20,5 +20,5 @@ loop-b-preserved c =
     ] in (
       omega (arith, l.invariant.0),
       omega (arith, c.loop-b-test.true),
-      seek-turn a.image.now a.n a.classes a.class l.b key (keys.ensures.1 l.b l.invariant.0 c.loop-b-test.true) a.to a.suspects.now l.seen c.seek_label.new.seen r c.requires.6 c.loop-b-test.true l.invariant.2 c.seek_label.ensures searched,
+      seek_turn a.image.now a.n a.classes a.class l.b key (keys.ensures.1 l.b l.invariant.0 c.loop-b-test.true) a.to a.suspects.now l.seen c.seek_label.new.seen r c.requires.6 c.loop-b-test.true l.invariant.2 c.seek_label.ensures searched,
     )

@@ -2,7 +2,7 @@
 use lib.ListN.{get_or}
 use mir.Syntax.{w64}
 use mir.Val.{Fits}
-use Rattle.page_diff.proofs.MarkLaws.{join-words}
+use Rattle.page_diff.proofs.MarkLaws.{join_words}
 use borrow.Author.Rules.{rules}
 use Rattle.page_diff.proofs.join.Statement.{statement}
 use Rattle.page_diff.proofs.join.Tie as tie
@@ -20,7 +20,7 @@ element-copy-out-t18 : tie.Need-bounds-b-1
 element-copy-out-t18 c = search rules
 
 returns : tie.Need-returns
-returns c = let a = c.before.before.before.before.args in let f : Fits w64 (get_or a.a.words 0 0) = search rules in let g : Fits w64 (get_or a.a.words 1 0) = search rules in let h : Fits w64 (get_or a.b.words 0 0) = search rules in let k : Fits w64 (get_or a.b.words 1 0) = search rules in join-words a.a.words a.b.words f.fits g.fits h.fits k.fits
+returns c = let a = c.before.before.before.before.args in let f : Fits w64 (get_or a.a.words 0 0) = search rules in let g : Fits w64 (get_or a.a.words 1 0) = search rules in let h : Fits w64 (get_or a.b.words 0 0) = search rules in let k : Fits w64 (get_or a.b.words 1 0) = search rules in join_words a.a.words a.b.words f.fits g.fits h.fits k.fits
 
 pub join_spec : {M : Type 1} → statement M
 join_spec =

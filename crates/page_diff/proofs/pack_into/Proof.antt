@@ -11,7 +11,7 @@ use Rattle.blocks.specs.Blocks.{put}
 use Rattle.page_diff.specs.Diff.{count_of, reserved}
 use Rattle.page_diff.proofs.Nodes.{nodes_plain}
 use Rattle.page_diff.proofs.Walk.{plain_count}
-use Rattle.page_diff.proofs.PackInto.{into-page, into-marks, into_memory, into-done, into-left, into-bytes}
+use Rattle.page_diff.proofs.PackInto.{into_page, into_marks, into_memory, into_done, into_left, into_bytes}
 use Rattle.page_diff.proofs.pack_into.Statement.{statement}
 use Rattle.page_diff.proofs.pack_into.Tie as tie
 
@@ -41,8 +41,8 @@ module _ (c : tie.After-count-count) where
 returns : tie.Need-returns-then-page-ne-PAGE_SIZE
 returns c =
     let a = c.before.before.before.args in
-    let e = into-page a.d.words a.page.now a.nodes.now c.if-page-ne-PAGE_SIZE.true in
-    (sym e, into-left a.d.words a.page.now a.nodes.now 2 e)
+    let e = into_page a.d.words a.page.now a.nodes.now c.if-page-ne-PAGE_SIZE.true in
+    (sym e, into_left a.d.words a.page.now a.nodes.now 2 e)
 
 is-reserved-requires : tie.Need-is_reserved-requires
 is-reserved-requires c κs = search rules
@@ -50,8 +50,8 @@ is-reserved-requires c κs = search rules
 returns-2 : tie.Need-returns-then-is_reserved
 returns-2 c =
     let a = c.before.before.before.before.before.args in
-    let e = into-marks a.d.words a.page.now a.nodes.now c.before.before.if-page-ne-PAGE_SIZE.false (sym c.before.is_reserved.ensures ∙ c.if-is_reserved.true) in
-    (sym e, into-left a.d.words a.page.now a.nodes.now 4 e)
+    let e = into_marks a.d.words a.page.now a.nodes.now c.before.before.if-page-ne-PAGE_SIZE.false (sym c.before.is_reserved.ensures ∙ c.if-is_reserved.true) in
+    (sym e, into_left a.d.words a.page.now a.nodes.now 4 e)
 
 returns-3 : tie.Need-returns-then-nodes-ne-NODES_SIZE
 returns-3 c =
@@ -60,7 +60,7 @@ returns-3 c =
     let e =
     into_memory a.d.words a.page.now a.nodes.now tests.before.if-page-ne-PAGE_SIZE.false (sym tests.is_reserved.ensures ∙ c.before.if-is_reserved.false) c.if-nodes-ne-NODES_SIZE.true
     in
-    (sym e, into-left a.d.words a.page.now a.nodes.now 2 e)
+    (sym e, into_left a.d.words a.page.now a.nodes.now 2 e)
 
 count-requires : tie.Need-count-count-requires
 count-requires c κs = search rules
@@ -83,12 +83,12 @@ same_length c = search rules
 returns-4 : tie.Need-returns
 returns-4 c =
     let zeroed = c.before.before in
-    let put-there = zeroed.before.before.before.before in
-    let at = put-there.before.before in
+    let put_there = zeroed.before.before.before.before in
+    let at = put_there.before.before in
     let used : ℕ = 32 * at.count-count.result in (
-      ap given at.count-count.ensures ∙ sym (into-done (ws at) (page at) (memory at) (a-page at) (plain at) (long at)),
-      zeroed.put_zeros.ensures ∙ ap (λ (l : List ℕ). put l used (replicate (4032 - used) 0)) (put-there.put_page_nodes.ensures ∙ nodes_plain (memory at) 0 (ws at) (page at) (plain at))
-          ∙ into-bytes (ws at) (page at) (memory at) used (ap (λ (k : ℕ). 32 * k) at.count-count.ensures) (a-page at) (plain at) (long at),
+      ap given at.count-count.ensures ∙ sym (into_done (ws at) (page at) (memory at) (a-page at) (plain at) (long at)),
+      zeroed.put_zeros.ensures ∙ ap (λ (l : List ℕ). put l used (replicate (4032 - used) 0)) (put_there.put_page_nodes.ensures ∙ nodes_plain (memory at) 0 (ws at) (page at) (plain at))
+          ∙ into_bytes (ws at) (page at) (memory at) used (ap (λ (k : ℕ). 32 * k) at.count-count.ensures) (a-page at) (plain at) (long at),
     )
 
 pub pack_into_spec : {M : Type 1} → statement M

@@ -1,6 +1,6 @@
 -- At the head of the loop the table has the nodes of the slots that are done; it ends when all are. Assumes nothing.
 use Rattle.page_diff.proofs.PackLaws.{table_none, table_turn, table_end}
-use Rattle.page_diff.proofs.Walk.{Walk, walk_start, walk-on, walk_at, walk_step, walk_end, plain_count}
+use Rattle.page_diff.proofs.Walk.{Walk, walk_start, walk_on, walk_at, walk_step, walk_end, plain_count}
 use Rattle.page_diff.specs.Pack.{table_of}
 use Rattle.page_diff.specs.Diff.{slots, count_of}
 use lib.ListN.{set, take}
@@ -21,7 +21,7 @@ decreases-loop page nodes₀ c₀ left₀ nodes c left = count_of left₀.words 
 on : (c : tie.Else-s-ge-NODES_PER_PAGE invariant-loop decreases-loop) → c.before.before.loop-next.c < count_of c.before.before.before.before.args.d.words
 on c =
     let at-loop = c.before.before in
-    walk-on at-loop.before.before.args.d.words at-loop.loop-next.left.words at-loop.loop-next.c c.before.next_slot-next.result.slot at-loop.loop-next.invariant.0 c.before.next_slot-next.ensures.0 (omega arith)
+    walk_on at-loop.before.before.args.d.words at-loop.loop-next.left.words at-loop.loop-next.c c.before.next_slot-next.result.slot at-loop.loop-next.invariant.0 c.before.next_slot-next.ensures.0 (omega arith)
 
 few : (c : tie.Else-s-ge-NODES_PER_PAGE invariant-loop decreases-loop) → c.before.before.loop-next.c < 126
 few c = omega (arith, on c, plain_count c.before.before.before.before.args.d.words c.before.before.before.before.requires)

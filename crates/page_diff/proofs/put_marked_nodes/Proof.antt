@@ -7,7 +7,7 @@ use lib.ListN.{length-map}
 use Rattle.blocks.specs.Blocks.{put}
 use Rattle.page_diff.specs.Diff.{slots, count_of}
 use Rattle.page_diff.specs.Pack.{node_at}
-use Rattle.page_diff.proofs.Walk.{Walk, walk_start, walk_at, walk-on, walk_step, walk_end, plain_count}
+use Rattle.page_diff.proofs.Walk.{Walk, walk_start, walk_at, walk_on, walk_step, walk_end, plain_count}
 use Rattle.page_diff.proofs.Nodes.{Nodes, nodes_start, nodes-length, page_turn, nodes_end}
 use Rattle.page_diff.proofs.put_marked_nodes.Statement.{statement}
 use Rattle.page_diff.proofs.put_marked_nodes.Tie as tie
@@ -24,7 +24,7 @@ module _ (c : tie.Else-slot-ge-NODES_PER_PAGE invariant-loop decreases-loop) whe
   at-loop = c.before.before
 
   on : at-loop.loop-next.c < count_of at-loop.before.before.before.args.d.words
-  on = walk-on at-loop.before.before.before.args.d.words at-loop.loop-next.left.words at-loop.loop-next.c c.before.next_slot-next.result.slot at-loop.loop-next.invariant.0 c.before.next_slot-next.ensures.0 (omega arith)
+  on = walk_on at-loop.before.before.before.args.d.words at-loop.loop-next.left.words at-loop.loop-next.c c.before.next_slot-next.result.slot at-loop.loop-next.invariant.0 c.before.next_slot-next.ensures.0 (omega arith)
 
   few : at-loop.loop-next.c < 126
   few = omega (arith, on, plain_count at-loop.before.before.before.args.d.words at-loop.before.before.before.requires.0)

@@ -1,6 +1,6 @@
 -- At the head of the loop the nodes of the slots that are done are put; it ends when all are. Assumes nothing.
 use Rattle.page_diff.proofs.PackLaws.{put_up_to, put_none, put_turn, put_all}
-use Rattle.page_diff.proofs.Walk.{Walk, walk_start, walk-on, walk-slot, walk_step, walk_end, plain_count}
+use Rattle.page_diff.proofs.Walk.{Walk, walk_start, walk_on, walk_slot, walk_step, walk_end, plain_count}
 use Rattle.page_diff.specs.Diff.{slots, count_of}
 use Rattle.blocks.specs.Blocks.{put}
 use lib.ListN.{length, get_or}
@@ -21,7 +21,7 @@ decreases-loop nodes page₀ c₀ left₀ page c left = count_of left₀.words -
 on : (c : tie.Else-s-ge-NODES_PER_PAGE invariant-loop decreases-loop) → c.before.before.loop-next.c < count_of c.before.before.before.before.args.d.words
 on c =
     let at-loop = c.before.before in
-    walk-on at-loop.before.before.args.d.words at-loop.loop-next.left.words at-loop.loop-next.c c.before.next_slot-next.result.slot at-loop.loop-next.invariant.0 c.before.next_slot-next.ensures.0 (omega arith)
+    walk_on at-loop.before.before.args.d.words at-loop.loop-next.left.words at-loop.loop-next.c c.before.next_slot-next.result.slot at-loop.loop-next.invariant.0 c.before.next_slot-next.ensures.0 (omega arith)
 
 few : (c : tie.Else-s-ge-NODES_PER_PAGE invariant-loop decreases-loop) → c.before.before.loop-next.c < 126
 few c = omega (arith, on c, plain_count c.before.before.before.before.args.d.words c.before.before.before.before.requires.0)
@@ -57,7 +57,7 @@ loop-less : tie.Need-loop-next-smaller invariant-loop decreases-loop
 loop-less c = omega (arith, on c.before.before.before.before.before.before)
 
 loop-again : tie.Need-loop-next-preserved invariant-loop decreases-loop
-loop-again c = let put-called = c.before.before.before in let turn = put-called.before.before.before in let at-loop = turn.before.before in let args = at-loop.before.before.args in let ws = args.d.words in let ns = args.nodes.now in let s = turn.before.next_slot-next.result.slot in let k = at-loop.loop-next.c in (walk_step ws at-loop.loop-next.left.words k s at-loop.loop-next.invariant.0 turn.before.next_slot-next.ensures.0 turn.before.next_slot-next.result.rest.words (omega arith) turn.before.next_slot-next.ensures.1, (put-called.put_32.auto.s ∙ at-loop.loop-next.invariant.1.0, λ j h. ap (λ (l : List ℕ). get_or l j 0) put-called.put_32.ensures.0 ∙ put_turn ws ns args.page.now at-loop.loop-next.page k s (walk-slot ws at-loop.loop-next.left.words k s at-loop.loop-next.invariant.0 turn.before.next_slot-next.ensures.0 (omega arith)) (get_or ns k []) refl put-called.put_32.ensures.1 at-loop.loop-next.invariant.1.0 (omega arith) at-loop.loop-next.invariant.1.1 j h))
+loop-again c = let put-called = c.before.before.before in let turn = put-called.before.before.before in let at-loop = turn.before.before in let args = at-loop.before.before.args in let ws = args.d.words in let ns = args.nodes.now in let s = turn.before.next_slot-next.result.slot in let k = at-loop.loop-next.c in (walk_step ws at-loop.loop-next.left.words k s at-loop.loop-next.invariant.0 turn.before.next_slot-next.ensures.0 turn.before.next_slot-next.result.rest.words (omega arith) turn.before.next_slot-next.ensures.1, (put-called.put_32.auto.s ∙ at-loop.loop-next.invariant.1.0, λ j h. ap (λ (l : List ℕ). get_or l j 0) put-called.put_32.ensures.0 ∙ put_turn ws ns args.page.now at-loop.loop-next.page k s (walk_slot ws at-loop.loop-next.left.words k s at-loop.loop-next.invariant.0 turn.before.next_slot-next.ensures.0 (omega arith)) (get_or ns k []) refl put-called.put_32.ensures.1 at-loop.loop-next.invariant.1.0 (omega arith) at-loop.loop-next.invariant.1.1 j h))
 
 pub unpack_nodes_spec : {M : Type 1} → statement M
 unpack_nodes_spec =

@@ -1,9 +1,9 @@
 -- A bucket that is found has a tag. Assumes nothing.
 use Rattle.std.proofs.Common.{sym, arith}
-use Rattle.probe.proofs.Allocating.{answer-below}
+use Rattle.probe.proofs.Allocating.{answer_below}
 use Rattle.probe.proofs.allocate_bucket.Goals as goal
 
 pub bounds-tags-b : goal.bounds-tags-b
 bounds-tags-b c =
     let a = c.args in
-    omega (arith, answer-below a.limit a.tags.now a.n a.hash c.in-At.bucket (sym c.in-At.ensures))
+    omega (arith, answer_below a.limit a.tags.now a.n a.hash c.in-At.bucket (sym c.in-At.ensures))

@@ -14,7 +14,7 @@ use Rattle.probe.specs.InnerWalk.{Met}
 use Rattle.probe.specs.Path.{is_free, is_hit, stops_probe, free_at, allows, no_bucket_by, allocating, allocate_answer}
 use Rattle.probe.proofs.Tests.{full_not_free}
 use Rattle.probe.proofs.Visits.{hits_none, hits_next}
-use Rattle.probe.proofs.Walk.{tags_room, passed-more, Stepped, Walking, walk_start, walk-ready, walk-below, walk-stop, walk-next, walk-met, walk_end}
+use Rattle.probe.proofs.Walk.{tags_room, passed_more, Stepped, Walking, walk_start, walk_ready, walk_below, walk_stop, walk_next, walk_met, walk_end}
 use Rattle.probe.proofs.Allocating.{hits_to, hits_passed, allows_none, given_at, none_free, crowded}
 use Rattle.probe.proofs.find_bucket.Invariants.{Counted}
 use Rattle.probe.proofs.find_bucket.Goals as goal
@@ -29,7 +29,7 @@ goes_on : (ts : List ℕ) (n h : ℕ) (limit : Limit) (p r : ProbeSequence) (m :
 goes_on ts n h limit p r m w e f l t =
     let d : p.visit + (r.visit - p.visit) ≡ r.visit = omega (arith, t.on) in
     record {
-      walk = walk-met (free_at ts) (length ts) n h 0 p w ts (2 * n) r (omega arith) (stops-walk ts h) t;
+      walk = walk_met (free_at ts) (length ts) n h 0 p w ts (2 * n) r (omega arith) (stops-walk ts h) t;
       count = e ∙ sym (hits_passed ts n h p.visit (r.visit - p.visit) (λ j x y. t.passed j x (omega (arith, d, y)))) ∙ ap (λ (k : ℕ). hits_to ts n h k) d;
       few = f;
       small = omega (arith, t.on);
@@ -47,7 +47,7 @@ or_left false y a b = absurd (true≢false (sym a ∙ b))
 -- in a turn: the walk stands at p, past so many hits
 module _ (ts : List ℕ) (n h : ℕ) (limit : Limit) (p : ProbeSequence) (m : ℕ) (inv : Counted ts n h limit p m) where
   below : (p.bucket < n) × (p.step < n)
-  below = walk-below (free_at ts) (length ts) n h 0 p inv.walk
+  below = walk_below (free_at ts) (length ts) n h 0 p inv.walk
 
   -- the tag is the hash's: a hit more, and no free bucket
   counted : get_or ts p.bucket 0 ≡ full_tag h → m + 1 ≡ hits_to ts n h (p.visit + 1)
@@ -57,7 +57,7 @@ module _ (ts : List ℕ) (n h : ℕ) (limit : Limit) (p : ProbeSequence) (m : �
 
   -- the step on from here
   stepped : (on : ProbeSequence) → p.visit < 2 * n → get_or ts p.bucket 0 ≡ full_tag h → Stepped n p on → Walking (free_at ts) (length ts) n h 0 on
-  stepped on within e d = walk-next (free_at ts) (length ts) n h 0 p inv.walk on (omega arith) (full_not_free h (get_or ts p.bucket 0) e) d
+  stepped on within e d = walk_next (free_at ts) (length ts) n h 0 p inv.walk on (omega arith) (full_not_free h (get_or ts p.bucket 0) e) d
 
 pub loop-p-init : goal.loop-p-init
 loop-p-init c =
@@ -83,7 +83,7 @@ returns-then-tags-b c =
     let miss = ne_eqb tag (full_tag a.hash) (λ q. c.if-tags-b.true (q ∙ sym c.full_entry-full.ensures)) in
     answered a.limit ts a.n a.hash (given p.bucket) (table_fits _ (sym c.in_default.ensures))
     (given_at a.limit ts a.n a.hash p.bucket p.visit
-    (walk-stop (free_at ts) (length ts) a.n a.hash 0 p inv.walk (omega (arith, c.loop-p-test.true)) (or_left (is_free tag) (is_hit a.hash tag) (inv.stops c.loop-p-test.true) miss))
+    (walk_stop (free_at ts) (length ts) a.n a.hash 0 p inv.walk (omega (arith, c.loop-p-test.true)) (or_left (is_free tag) (is_hit a.hash tag) (inv.stops c.loop-p-test.true) miss))
     (ap (allows a.limit) (sym inv.count) ∙ inv.few))
 
 pub next-on-requires : goal.next-on-requires
@@ -95,7 +95,7 @@ next-on-requires c =
 pub next_stop-p-requires-then-within_limit : goal.next_stop-p-requires-then-within_limit
 next_stop-p-requires-then-within_limit c =
     let a = c.args in
-    walk-ready (free_at a.tags.now) (length a.tags.now) a.n a.hash 0 c.next-on.result
+    walk_ready (free_at a.tags.now) (length a.tags.now) a.n a.hash 0 c.next-on.result
     (stepped a.tags.now a.n a.hash a.limit c.loop-p.p c.loop-p.hits c.loop-p.invariant c.next-on.result c.loop-p-test.true (c.if-tags-b.false ∙ c.full_entry-full.ensures) c.next-on.ensures)
     (2 * a.n) (omega arith)
 
@@ -120,7 +120,7 @@ returns-else-within_limit c =
     let tag = c.if-tags-b.false ∙ c.full_entry-full.ensures in
     let count = counted ts a.n a.hash a.limit p c.loop-p.hits inv tag in
     let not_free = full_not_free a.hash (get_or ts p.bucket 0) tag in
-    let passed = passed-more (free_at ts) a.n a.hash 0 p.visit inv.walk.passed (ap (free_at ts) (sym inv.walk.stand.0) ∙ not_free) in
+    let passed = passed_more (free_at ts) a.n a.hash 0 p.visit inv.walk.passed (ap (free_at ts) (sym inv.walk.stand.0) ∙ not_free) in
     answered a.limit ts a.n a.hash (refused 10) (table_fits _ (sym c.in_default.ensures))
     (crowded a.limit ts a.n a.hash (p.visit + 1) (omega (arith, c.loop-p-test.true)) passed (omega (arith, count))
     (ap (allows a.limit) (sym count) ∙ sym c.if-within_limit.ensures))

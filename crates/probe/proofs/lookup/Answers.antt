@@ -10,7 +10,7 @@ use Rattle.meta_map.specs.Tags.{full_tag}
 use Rattle.probe.specs.declared.ProbeSequence.{ProbeSequence}
 use Rattle.probe.specs.Path.{is_empty, is_tombstone, is_hit, Stop, stop_at, nowhere, stops_probe, page_end, Sought, found_at, absent, unreached, stops_lookup, lookup_stop, lookup_saw, looking_up, lookup_answer}
 use Rattle.probe.proofs.Tests.{empty_is, empty_not}
-use Rattle.probe.proofs.Walk.{Stepped, Walking, walk-ready, walk-below, walk-stop, walk-next, walk-met, walk_end}
+use Rattle.probe.proofs.Walk.{Stepped, Walking, walk_ready, walk_below, walk_stop, walk_next, walk_met, walk_end}
 use Rattle.probe.proofs.lookup.Goals.{After-next-on, then-tag-full+else-ends_in, else-tag-full}
 use Rattle.probe.proofs.lookup.Goals as goal
 
@@ -33,7 +33,7 @@ answered img n h id s a fits e q = rw (fits, e, q)
 -- in a turn: the walk stands at p
 module _ (img : List ℕ) (n h : ℕ) (id : List ℕ) (p : ProbeSequence) (walk : Walking (stops_lookup img n h id) (length img) n h 0 p) where
   below : (p.bucket < n) × (p.step < n)
-  below = walk-below (stops_lookup img n h id) (length img) n h 0 p walk
+  below = walk_below (stops_lookup img n h id) (length img) n h 0 p walk
 
   -- what was compared in the bucket's page
   compared : (x : ℕ) (r t : Bool) → x ≡ start_in n p.bucket → r ≡ same_bytes (take 32 (drop (x + 4064) img)) id → r ≡ t → same_bytes (page_end img n p.bucket) id ≡ t
@@ -45,11 +45,11 @@ module _ (img : List ℕ) (n h : ℕ) (id : List ℕ) (p : ProbeSequence) (walk 
   stopped : (a : Sought) → image_fits n (length img) ≡ true → p.visit < 2 * n → stops_lookup img n h id p.bucket ≡ true → lookup_saw img (stop_at p.bucket p.visit) ≡ a
       → given a ≡ lookup_answer img n h id
   stopped a fits within e q =
-      answered img n h id (stop_at p.bucket p.visit) a fits (walk-stop (stops_lookup img n h id) (length img) n h 0 p walk (omega arith) e) q
+      answered img n h id (stop_at p.bucket p.visit) a fits (walk_stop (stops_lookup img n h id) (length img) n h 0 p walk (omega arith) e) q
 
   -- or steps on
   stepped : (on : ProbeSequence) → p.visit < 2 * n → stops_lookup img n h id p.bucket ≡ false → Stepped n p on → Walking (stops_lookup img n h id) (length img) n h 0 on
-  stepped on within goes e = walk-next (stops_lookup img n h id) (length img) n h 0 p walk on (omega arith) goes e
+  stepped on within goes e = walk_next (stops_lookup img n h id) (length img) n h 0 p walk on (omega arith) goes e
 
 pub bounds-image-b : goal.bounds-image-b
 bounds-image-b c =
@@ -95,12 +95,12 @@ went c =
 pub next_stop-p-requires-in-loop-p : goal.next_stop-p-requires-in-loop-p
 next_stop-p-requires-in-loop-p c =
     let a = c.args in
-    walk-ready (stops_lookup a.image.now a.n a.hash a.id) (length a.image.now) a.n a.hash 0 c.next-on.result (went c) (2 * a.n) (omega arith)
+    walk_ready (stops_lookup a.image.now a.n a.hash a.id) (length a.image.now) a.n a.hash 0 c.next-on.result (went c) (2 * a.n) (omega arith)
 
 pub loop-p-preserved : goal.loop-p-preserved
 loop-p-preserved c =
     let a = c.args in
-    walk-met (stops_lookup a.image.now a.n a.hash a.id) (length a.image.now) a.n a.hash 0 c.next-on.result (went (goal.at.loop-p-preserved c).After-next-on) a.image.now (2 * a.n) c.next_stop-p-in-loop-p.result (omega arith)
+    walk_met (stops_lookup a.image.now a.n a.hash a.id) (length a.image.now) a.n a.hash 0 c.next-on.result (went (goal.at.loop-p-preserved c).After-next-on) a.image.now (2 * a.n) c.next_stop-p-in-loop-p.result (omega arith)
     (stops-walk a.image.now a.n a.hash a.id) c.next_stop-p-in-loop-p.ensures
 
 pub returns : goal.returns

@@ -5,7 +5,7 @@ use mathlib.Core.Path.{subst}
 use Rattle.meta_map.specs.Tags.{full_tag}
 use Rattle.probe.specs.Path.{stops_probe}
 use Rattle.probe.proofs.Tests.{empty_not, tombstone_not}
-use Rattle.probe.proofs.Walk.{Passed, passed-more, stands_below, stands_next}
+use Rattle.probe.proofs.Walk.{Passed, passed_more, stands_below, stands_next}
 use Rattle.probe.proofs.next_stop.Goals as goal
 
 pub bounds-tags-b : goal.bounds-tags-b
@@ -33,5 +33,5 @@ loop-p-preserved c =
       omega (arith, on, inv.1),
       omega (arith, on, c.loop-p-test.true),
       subst (Passed (stops_probe ts h) n h c.args.from.visit) (sym on)
-          (passed-more (stops_probe ts h) n h c.args.from.visit p.visit inv.3 (ap (stops_probe ts h) (sym inv.0.0) ∙ goes)),
+          (passed_more (stops_probe ts h) n h c.args.from.visit p.visit inv.3 (ap (stops_probe ts h) (sym inv.0.0) ∙ goes)),
     )

@@ -8,7 +8,7 @@ use Rattle.probe.specs.declared.ProbeSequence.{ProbeSequence}
 use Rattle.probe.specs.InnerWalk.{stands, Met}
 use Rattle.probe.specs.Path.{Stop, stop_at, nowhere, first_stop, path_from, Probe, empty_at, tombstone_at, hit_at, closed, stops_probe, probe_saw, probing, probe_answer}
 use Rattle.probe.proofs.Tests.{empty_is, empty_not, tombstone_is, tombstone_not}
-use Rattle.probe.proofs.Walk.{tags_room, Walking, walk_start, walk-below, walk-stop, walk-met, walk_end}
+use Rattle.probe.proofs.Walk.{tags_room, Walking, walk_start, walk_below, walk_stop, walk_met, walk_end}
 use Rattle.probe.proofs.probe_from.Goals as goal
 
 -- what the definition answers, from where its walk stops
@@ -23,12 +23,12 @@ module _ (ts : List ℕ) (n h k : ℕ) (first p : ProbeSequence) (fits : tags_fi
   walked =
       let f = tags_room ts n fits in
       let small : k % (2 * n) < 2 * n = mod-lt k {m = 2 * n} (omega (arith, f)) in
-      walk-met (stops_probe ts h) (length ts) n h (k % (2 * n)) first (walk_start (stops_probe ts h) (length ts) n h (k % (2 * n)) first f.0 f.1 f.2 small new) ts (k % (2 * n) + 2 * n) p refl (λ b e. e) met
+      walk_met (stops_probe ts h) (length ts) n h (k % (2 * n)) first (walk_start (stops_probe ts h) (length ts) n h (k % (2 * n)) first f.0 f.1 f.2 small new) ts (k % (2 * n) + 2 * n) p refl (λ b e. e) met
 
   -- it stopped before its end
   stopped : (a : Probe) → p.visit < k % (2 * n) + 2 * n → probe_saw ts (stop_at p.bucket p.visit) ≡ a → given a ≡ probe_answer ts n h k
   stopped a l q =
-      answered ts n h k (stop_at p.bucket p.visit) a fits (walk-stop (stops_probe ts h) (length ts) n h (k % (2 * n)) p walked l (met.stops l)) q
+      answered ts n h k (stop_at p.bucket p.visit) a fits (walk_stop (stops_probe ts h) (length ts) n h (k % (2 * n)) p walked l (met.stops l)) q
 
   -- or at its end
   ended : k % (2 * n) + 2 * n ≤ p.visit → given closed ≡ probe_answer ts n h k
@@ -43,7 +43,7 @@ bounds-tags-b c =
     let a = c.args in
     let fits = table_fits (tags_fit a.n (length a.tags.now)) (sym c.in_default.ensures) in
     let walk = walked a.tags.now a.n a.hash a.k c.new-first.result c.next_stop-p.result fits c.new-first.ensures c.next_stop-p.ensures in
-    omega (arith, walk-below (stops_probe a.tags.now a.hash) (length a.tags.now) a.n a.hash (a.k % (2 * a.n)) c.next_stop-p.result walk, tags_room a.tags.now a.n fits)
+    omega (arith, walk_below (stops_probe a.tags.now a.hash) (length a.tags.now) a.n a.hash (a.k % (2 * a.n)) c.next_stop-p.result walk, tags_room a.tags.now a.n fits)
 
 pub returns-then-hint-eq-EMPTY : goal.returns-then-hint-eq-EMPTY
 returns-then-hint-eq-EMPTY c =

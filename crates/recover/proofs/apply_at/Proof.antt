@@ -23,7 +23,7 @@ use Rattle.recover.specs.Replay.{bucket_of}
 use Rattle.recover.specs.InnerPage.{page_by}
 use Rattle.recover.proofs.Checks.{there_bucket, there_entry, updated_there}
 use Rattle.recover.proofs.Parts.{part-put, set-put}
-use Rattle.recover.proofs.Steps.{step-outside, step-taken, step-stop, clear_image, update-image}
+use Rattle.recover.proofs.Steps.{step_outside, step_taken, step_stop_lem, clear_image, update_image}
 use Rattle.recover.proofs.apply_at.Statement.{statement}
 use Rattle.recover.proofs.apply_at.Tie as tie
 
@@ -84,8 +84,8 @@ module _ (c : tie.Else-n-bucket-2) where
   page-fits : page_start n (bucket told) + 4096 ≤ length image
   page-fits = omega (arith, bounds.2, inside)
 
-  abbrev tag-set : List ℕ
-  tag-set = set image (bucket told) (full_tag (updating told).args.hash)
+  abbrev tag_set : List ℕ
+  tag_set = set image (bucket told) (full_tag (updating told).args.hash)
 
 -- the tag is written, and nothing else yet
 module _ (c : tie.After-write_tag-2) where
@@ -95,14 +95,14 @@ module _ (c : tie.After-write_tag-2) where
   abbrev b : ℕ
   b = bucket (told here)
 
-  tagged : put_mid b (b + 1 - b) (image here) c.write_tag-2.new.part ≡ tag-set here
+  tagged : put_mid b (b + 1 - b) (image here) c.write_tag-2.new.part ≡ tag_set here
   tagged =
       ap (put_mid b (b + 1 - b) (image here)) (c.write_tag-2.ensures ∙ ap (λ (v : ℕ). v ∷ []) c.full_entry.ensures)
       ∙ part-put b (b + 1) (image here) (full_tag (updating (told here)).args.hash ∷ []) (omega arith) (omega (arith, (bounds here).2, inside here)) (omega arith)
       ∙ set-put (image here) b (full_tag (updating (told here)).args.hash) (omega (arith, (bounds here).2, inside here))
 
-  tagged-long : length (put_mid b (b + 1 - b) (image here) c.write_tag-2.new.part) ≡ length (image here)
-  tagged-long = ap length tagged ∙ length-set (image here) b (full_tag (updating (told here)).args.hash)
+  tagged_long : length (put_mid b (b + 1 - b) (image here) c.write_tag-2.new.part) ≡ length (image here)
+  tagged_long = ap length tagged ∙ length-set (image here) b (full_tag (updating (told here)).args.hash)
 
 -- where its page starts
 module _ (c : tie.After-page_start-a) where
@@ -132,7 +132,7 @@ returns c =
     let t = c.before in
     let s = clearing t in
     let a = s.args in
-    step-outside a.rule a.n a.image.now a.edition a.log.now a.at a.hash s.requires (clear t.in-Clear.bucket) t.in-Clear.next (is-clear t) c.if-n-bucket.true
+    step_outside a.rule a.n a.image.now a.edition a.log.now a.at a.hash s.requires (clear t.in-Clear.bucket) t.in-Clear.next (is-clear t) c.if-n-bucket.true
 
 add-write-tag : tie.Need-overflow_add-b
 add-write-tag c = search rules
@@ -162,7 +162,7 @@ returns-2 c =
     let b = t.in-Clear.bucket in
     let f = facts a.n a.image.now s.requires in
     let l : b < length a.image.now = omega (arith, f.2, past.if-n-bucket.false) in
-    let taken = step-taken a.rule a.n a.image.now a.edition a.log.now a.at a.hash s.requires (clear b) t.in-Clear.next (is-clear t) past.if-n-bucket.false in (
+    let taken = step_taken a.rule a.n a.image.now a.edition a.log.now a.at a.hash s.requires (clear b) t.in-Clear.next (is-clear t) past.if-n-bucket.false in (
       taken.0,
       ap (put_mid b (b + 1 - b) a.image.now) called.write_tag.ensures
           ∙ part-put b (b + 1) a.image.now (0x7F ∷ []) (omega arith) (omega arith) (omega arith)
@@ -181,7 +181,7 @@ returns-3 c =
     let read = stop.before.before in
     let s = read.before.before.before in
     let a = s.args in
-    let out = step-stop a.rule a.n a.image.now a.edition a.log.now a.at a.hash s.requires read.head_by-head.result read.head_by-head.ensures stop.in_default.in_default-own.keys2 stop.in_default-head.in_default-head-own.keys2 in
+    let out = step_stop_lem a.rule a.n a.image.now a.edition a.log.now a.at a.hash s.requires read.head_by-head.result read.head_by-head.ensures stop.in_default.in_default-own.keys2 stop.in_default-head.in_default-head-own.keys2 in
     (c.stopped_step.ensures ∙ out.0, out.1)
 
 returns-4 : tie.Need-returns-then-n-bucket-2
@@ -189,7 +189,7 @@ returns-4 c =
     let t = c.before in
     let s = updating t in
     let a = s.args in
-    step-outside a.rule a.n a.image.now a.edition a.log.now a.at a.hash s.requires (update_of a.log.now (body t)) (after t) (there t).here
+    step_outside a.rule a.n a.image.now a.edition a.log.now a.at a.hash s.requires (update_of a.log.now (body t)) (after t) (there t).here
     (subst (λ (b : ℕ). a.n ≤ b) (sym (there_bucket a.rule a.edition a.log.now a.at (bucket t) (count t) (after t) (there t))) c.if-n-bucket-2.true)
 
 add-write-tag-2 : tie.Need-overflow_add-b-2
@@ -232,7 +232,7 @@ part-apply-page-start : tie.Need-slice_bounds-apply_page-start
 part-apply-page-start c = search rules
 
 part-apply-page-end : tie.Need-slice_bounds-apply_page-end
-part-apply-page-end c = omega (arith, start-here c, page-fits (entry c), tagged-long (written c))
+part-apply-page-end c = omega (arith, start-here c, page-fits (entry c), tagged_long (written c))
 
 apply-page-requires : tie.Need-apply_page-requires
 apply-page-requires c κs =
@@ -241,7 +241,7 @@ apply-page-requires c κs =
     let a = k.page_start-a.result in
     let same : a + 4096 - a ≡ 4096 = omega arith in
     let log = (updating t).args.log.now in (
-      mid_len a (a + 4096) (put_mid (b (written k)) (b (written k) + 1 - b (written k)) (image (entry k)) (written k).write_tag-2.new.part) (omega (arith, start-here k, page-fits (entry k), tagged-long (written k))) ∙ same,
+      mid_len a (a + 4096) (put_mid (b (written k)) (b (written k) + 1 - b (written k)) (image (entry k)) (written k).write_tag-2.new.part) (omega (arith, start-here k, page-fits (entry k), tagged_long (written k))) ∙ same,
       ap (λ (p : ℕ). reserved (diff_at log p)) (body_is t) ∙ (there t).plain,
       (there t).count ∙ sym (ap (λ (p : ℕ). count_of (diff_at log p)) (body_is t)),
       omega (arith, (there t).within, body_is t),
@@ -267,9 +267,9 @@ returns-5 c =
     let ns = nodes_from log (p + 48) m in
     let el = block 8 log (p + 48 + 32 * m) in
     let first = put_mid (b (written k)) (b (written k) + 1 - b (written k)) (image e) (written k).write_tag-2.new.part in
-    let page = take 4096 (drop a (tag-set e)) in
+    let page = take 4096 (drop a (tag_set e)) in
     let within : bucket_of (update_of log p) < args.n = subst (λ (x : ℕ). x < args.n) (sym (there_bucket args.rule args.edition log args.at (bucket t) m (after t) (there t))) (inside e) in
-    let taken = step-taken args.rule args.n args.image.now args.edition log args.at args.hash s.requires (update_of log p) (after t) (there t).here within in
+    let taken = step_taken args.rule args.n args.image.now args.edition log args.at args.hash s.requires (update_of log p) (after t) (there t).here within in
     let was : take (k.page_start-a.result + 4096 - k.page_start-a.result) (drop k.page_start-a.result first) ≡ page =
     ap (λ (x : ℕ). take (x + 4096 - x) (drop x first)) (start-here k) ∙ ap₂ (λ (x : ℕ) (l : List ℕ). take x (drop a l)) (size k) (tagged (written k)) in
     let made : applied.apply_page.new.page ≡ page_after id ws ns el page =
@@ -278,9 +278,9 @@ returns-5 c =
       ap given (updated_there args.edition log args.at (after t)) ∙ taken.0,
       ap (λ (x : ℕ). put_mid x (x + 4096 - x) first applied.apply_page.new.page) (start-here k)
           ∙ ap₂ (λ (l q : List ℕ). put_mid a (a + 4096 - a) l q) (tagged (written k)) made
-          ∙ part-put a (a + 4096) (tag-set e) (page_after id ws ns el page) (omega arith) (omega (arith, page-fits e, length-set (image e) (bucket t) (full_tag args.hash)))
+          ∙ part-put a (a + 4096) (tag_set e) (page_after id ws ns el page) (omega arith) (omega (arith, page-fits e, length-set (image e) (bucket t) (full_tag args.hash)))
           (tabulate-length (λ o. cond (page_named ws o) (page_gives id ws ns el o) (get_or page o 0)) 4096 ∙ sym same)
-          ∙ update-image args.n id ws ns el (bucket t) args.hash args.image.now (bounds e).2 (inside e)
+          ∙ update_image args.n id ws ns el (bucket t) args.hash args.image.now (bounds e).2 (inside e)
           ∙ ap (λ (x : Entry). stepped args.n (record { entry = x; hash = args.hash }) args.image.now) (sym (there_entry args.rule args.edition log args.at (bucket t) m (after t) (there t))) ∙ taken.1,
     )
 

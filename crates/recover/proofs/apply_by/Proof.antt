@@ -5,7 +5,7 @@ use Rattle.answers.specs.Answers.{outcome_said}
 use Rattle.answers.specs.Refusals.{number_of}
 use Rattle.ht_file.specs.Places.{image_fits}
 use Rattle.ht_file.proofs.Laws.{table_fits}
-use Rattle.recover.proofs.Steps.{step-unfit}
+use Rattle.recover.proofs.Steps.{step_unfit}
 use borrow.Author.Rules.{rules}
 use Rattle.recover.proofs.apply_by.Statement.{statement}
 use Rattle.recover.proofs.apply_by.Tie as tie
@@ -19,7 +19,7 @@ enum-known-fit c = search rules
 returns : tie.Need-returns-in-Refused
 returns c =
     let args = c.args in
-    step-unfit args.rule args.n args.image.now args.edition args.log.now args.at args.hash (number_of c.in-Refused.why) (sym c.check_image-fit.ensures ∙ ap outcome_said c.in-Refused.is)
+    step_unfit args.rule args.n args.image.now args.edition args.log.now args.at args.hash (number_of c.in-Refused.why) (sym c.check_image-fit.ensures ∙ ap outcome_said c.in-Refused.is)
 
 enum_told : tie.Need-enum_told-1
 enum_told c = search rules

@@ -1,8 +1,8 @@
 -- The slots take the nodes of the log, and the last 40 bytes are put over them. Assumes nothing.
-use Rattle.recover.proofs.Pages.{page-done}
+use Rattle.recover.proofs.Pages.{page_done}
 use Rattle.recover.proofs.Parts.{part-put}
 use Rattle.recover.specs.Places.{page_after}
-use Rattle.wal_read.proofs.NextLaws.{read-words}
+use Rattle.wal_read.proofs.NextLaws.{read_words_lem}
 use Rattle.wal.specs.Reader.{diff_at, nodes_from}
 use Rattle.page_diff.specs.Pack.{unpacked_byte}
 use Rattle.page_diff.specs.Diff.{count_of, reserved, read_words}
@@ -24,7 +24,7 @@ diff_is c =
     let read = c.before in
     let start = read.before.before.before.before in
     read.from_bytes-read.ensures.1 ∙ ap read_words read.block_16.ensures
-    ∙ read-words (block 16 start.args.log.now (start.args.body + 32)) start.requires.1
+    ∙ read_words_lem (block 16 start.args.log.now (start.args.body + 32)) start.requires.1
 
 add-block-16 : tie.Need-overflow_add-body
 add-block-16 c = search rules
@@ -72,7 +72,7 @@ same_length : tie.Need-shape_of-page
 same_length c = search rules
 
 returns : tie.Need-returns
-returns c = let label = c.before.before in let ids = label.before.before in let els = ids.before in let slots = els.before.before.before in let start = slots.before.before.before.before.before.before.before in let args = start.args in let log = args.log.now in let at = args.body in let k = args.count in let page = args.page.now in let e = diff_is slots.before.before in let el = els.block_8-elided.result in let id = ids.block_32-id.result in let page1 : slots.write_slots.new.page ≡ tabulate (unpacked_byte (diff_at log at) (nodes_from log (at + 48) k) page) 4096 = slots.write_slots.ensures ∙ ap (λ (ws : List ℕ). tabulate (unpacked_byte ws (nodes_from log (at + 48) (count_of ws)) page) 4096) e ∙ ap (λ (n : ℕ). tabulate (unpacked_byte (diff_at log at) (nodes_from log (at + 48) n) page) 4096) (sym start.requires.2) in let long : length (el ++ id) ≡ 40 = omega (arith, length-append el id, label.write_label.ensures.1, label.write_label.ensures.2) in ap₂ (λ (l m : List ℕ). put_mid 4056 40 l m) page1 label.write_label.ensures.0 ∙ part-put 4056 4096 (tabulate (unpacked_byte (diff_at log at) (nodes_from log (at + 48) k) page) 4096) (el ++ id) (omega arith) (omega (arith, tabulate-length (unpacked_byte (diff_at log at) (nodes_from log (at + 48) k) page) 4096)) long ∙ page-done id (diff_at log at) (nodes_from log (at + 48) k) el page label.write_label.ensures.1 label.write_label.ensures.2 ∙ ap₂ (λ (x y : List ℕ). page_after x (diff_at log at) (nodes_from log (at + 48) k) y page) ids.block_32-id.ensures els.block_8-elided.ensures
+returns c = let label = c.before.before in let ids = label.before.before in let els = ids.before in let slots = els.before.before.before in let start = slots.before.before.before.before.before.before.before in let args = start.args in let log = args.log.now in let at = args.body in let k = args.count in let page = args.page.now in let e = diff_is slots.before.before in let el = els.block_8-elided.result in let id = ids.block_32-id.result in let page1 : slots.write_slots.new.page ≡ tabulate (unpacked_byte (diff_at log at) (nodes_from log (at + 48) k) page) 4096 = slots.write_slots.ensures ∙ ap (λ (ws : List ℕ). tabulate (unpacked_byte ws (nodes_from log (at + 48) (count_of ws)) page) 4096) e ∙ ap (λ (n : ℕ). tabulate (unpacked_byte (diff_at log at) (nodes_from log (at + 48) n) page) 4096) (sym start.requires.2) in let long : length (el ++ id) ≡ 40 = omega (arith, length-append el id, label.write_label.ensures.1, label.write_label.ensures.2) in ap₂ (λ (l m : List ℕ). put_mid 4056 40 l m) page1 label.write_label.ensures.0 ∙ part-put 4056 4096 (tabulate (unpacked_byte (diff_at log at) (nodes_from log (at + 48) k) page) 4096) (el ++ id) (omega arith) (omega (arith, tabulate-length (unpacked_byte (diff_at log at) (nodes_from log (at + 48) k) page) 4096)) long ∙ page_done id (diff_at log at) (nodes_from log (at + 48) k) el page label.write_label.ensures.1 label.write_label.ensures.2 ∙ ap₂ (λ (x y : List ℕ). page_after x (diff_at log at) (nodes_from log (at + 48) k) y page) ids.block_32-id.ensures els.block_8-elided.ensures
 
 pub apply_page_spec : {M : Type 1} → statement M
 apply_page_spec =

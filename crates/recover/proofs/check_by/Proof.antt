@@ -5,7 +5,7 @@ use Rattle.answers.specs.Answers.{given, refused, number_said, outcome_said}
 use Rattle.answers.specs.Refusals.{number_of}
 use Rattle.ht_file.specs.Places.{image_fits}
 use Rattle.ht_file.proofs.Laws.{table_fits}
-use Rattle.recover.proofs.Replays.{replay-unfit, replay-empty, replay-started}
+use Rattle.recover.proofs.Replays.{replay_unfit, replay_empty, replay_started}
 use borrow.Author.Rules.{rules}
 use Rattle.recover.proofs.check_by.Statement.{statement}
 use Rattle.recover.proofs.check_by.Tie as tie
@@ -23,7 +23,7 @@ enum-known-fit c = search rules
 returns : tie.Need-returns-in-Refused
 returns c =
     let args = c.args in
-    replay-unfit args.rule args.n args.image_len args.log.now args.want args.hashes (number_of c.in-Refused.why) (sym c.check_image-fit.ensures ∙ ap outcome_said c.in-Refused.is)
+    replay_unfit args.rule args.n args.image_len args.log.now args.want args.hashes (number_of c.in-Refused.why) (sym c.check_image-fit.ensures ∙ ap outcome_said c.in-Refused.is)
 
 enum_told : tie.Need-enum_told-1
 enum_told c = search rules
@@ -32,7 +32,7 @@ returns-2 : tie.Need-returns-then-log-eq0
 returns-2 c =
     let told = c.before in
     let args = told.args in
-    replay-empty args.rule args.n args.image_len args.log.now args.want args.hashes (fits told) c.if-log-eq0.true
+    replay_empty args.rule args.n args.image_len args.log.now args.want args.hashes (fits told) c.if-log-eq0.true
 
 set-requires : tie.Need-set-start-requires
 set-requires c κs = search rules
@@ -52,14 +52,14 @@ returns-3 c =
     let some = read.before in
     let args = some.args in
     c.check_started.ensures
-    ∙ replay-started args.rule args.n args.image_len args.log.now args.want args.hashes (fits some.before) some.if-log-eq0.false (given c.in-Is.found) (sym read.set-start.ensures ∙ ap number_said c.in-Is.is)
+    ∙ replay_started args.rule args.n args.image_len args.log.now args.want args.hashes (fits some.before) some.if-log-eq0.false (given c.in-Is.found) (sym read.set-start.ensures ∙ ap number_said c.in-Is.is)
 
 returns-4 : tie.Need-returns-in-Refused-start
 returns-4 c =
     let read = c.before in
     let some = read.before in
     let args = some.args in
-    replay-started args.rule args.n args.image_len args.log.now args.want args.hashes (fits some.before) some.if-log-eq0.false (refused (number_of c.in-Refused-start.why)) (sym read.set-start.ensures ∙ ap number_said c.in-Refused-start.is)
+    replay_started args.rule args.n args.image_len args.log.now args.want args.hashes (fits some.before) some.if-log-eq0.false (refused (number_of c.in-Refused-start.why)) (sym read.set-start.ensures ∙ ap number_said c.in-Refused-start.is)
 
 pub check_by_spec : {M : Type 1} → statement M
 check_by_spec =

@@ -12,7 +12,7 @@ use Rattle.wal.specs.declared.Edition.{Edition}
 use Rattle.wal.proofs.Records.{mark_some}
 use Rattle.wal_read.specs.Head.{head_of, head_said}
 use Rattle.wal_read.proofs.ReadLaws.{There, head_clear, head_update, moves}
-use Rattle.recover.proofs.Checks.{CheckState, check_start, check-entry, check-outside, check-stop, there_bucket, there-one}
+use Rattle.recover.proofs.Checks.{CheckState, check_start, check_entry, check_outside, check_stop_lem, there_bucket, there_one}
 use Rattle.recover.proofs.check_log.Statement.{statement}
 use Rattle.recover.proofs.check_log.Tie as tie
 
@@ -98,7 +98,7 @@ returns : tie.Need-returns-then-n-bucket invariant-loop decreases-loop
 returns c =
     let told = c.before in
     let l = clear-loop told in
-    sym (check-outside (rule l) (n l) (log l) (at l) (updates l) l.loop-bucket.invariant.1 (start l).args.hashes (clear told.in-Clear.bucket) told.in-Clear.next (cleared told) c.if-n-bucket.true)
+    sym (check_outside (rule l) (n l) (log l) (at l) (updates l) l.loop-bucket.invariant.1 (start l).args.hashes (clear told.in-Clear.bucket) told.in-Clear.next (cleared told) c.if-n-bucket.true)
 
 loop-less : tie.Need-loop-bucket-smaller-in-Clear invariant-loop decreases-loop
 loop-less c =
@@ -115,7 +115,7 @@ loop-again c =
     let p = told.in-Clear.next in
     let m = moves (rule l) (edition_at (log l)) (log l) (at l) (clear b) p (cleared told) in
     let z : updates l + 0 ≡ updates l = omega arith in
-    (l.loop-bucket.invariant.0, subst (CheckState (rule l) (n l) (log l) p) z (check-entry (rule l) (n l) (log l) (at l) (updates l) l.loop-bucket.invariant.1 (clear b) p (cleared told) c.if-n-bucket.false m.on))
+    (l.loop-bucket.invariant.0, subst (CheckState (rule l) (n l) (log l) p) z (check_entry (rule l) (n l) (log l) (at l) (updates l) l.loop-bucket.invariant.1 (clear b) p (cleared told) c.if-n-bucket.false m.on))
 
 enum-known-head-2 : tie.Need-enum_known-head-in_default invariant-loop decreases-loop
 enum-known-head-2 c = search rules
@@ -129,14 +129,14 @@ returns-2 c =
     let read = stop.before.before in
     let l = read.before in
     c.stopped_check.ensures
-    ∙ sym (check-stop (rule l) (n l) (log l) (at l) (updates l) l.loop-bucket.invariant.1 (start l).args.hashes read.head_by-head.result (read.head_by-head.ensures ∙ ap (λ (e : Edition). head_of (next_by (rule l) e (log l) (at l))) l.loop-bucket.invariant.0) stop.in_default.in_default-own.keys2 stop.in_default-head.in_default-head-own.keys2)
+    ∙ sym (check_stop_lem (rule l) (n l) (log l) (at l) (updates l) l.loop-bucket.invariant.1 (start l).args.hashes read.head_by-head.result (read.head_by-head.ensures ∙ ap (λ (e : Edition). head_of (next_by (rule l) e (log l) (at l))) l.loop-bucket.invariant.0) stop.in_default.in_default-own.keys2 stop.in_default-head.in_default-head-own.keys2)
 
 returns-3 : tie.Need-returns-then-n-bucket-2 invariant-loop decreases-loop
 returns-3 c =
     let told = c.before in
     let l = update-loop told in
     let t = there told in
-    sym (check-outside (rule l) (n l) (log l) (at l) (updates l) l.loop-bucket.invariant.1 (start l).args.hashes (update_of (log l) (at l + mark_size (ed told))) (after told) t.here
+    sym (check_outside (rule l) (n l) (log l) (at l) (updates l) l.loop-bucket.invariant.1 (start l).args.hashes (update_of (log l) (at l + mark_size (ed told))) (after told) t.here
     (subst (λ (b : ℕ). n l ≤ b) (sym (there_bucket (rule l) (ed told) (log l) (at l) (bucket told) (count told) (after told) t)) c.if-n-bucket-2.true))
 
 add-updates : tie.Need-overflow_add-updates invariant-loop decreases-loop
@@ -152,8 +152,8 @@ loop-again-2 c =
     let t = there told in
     let p = after told in (
       l.loop-bucket.invariant.0,
-      subst (λ (k : ℕ). CheckState (rule l) (n l) (log l) p (updates l + k)) (there-one (ed told) (log l) (at l))
-          (check-entry (rule l) (n l) (log l) (at l) (updates l) l.loop-bucket.invariant.1 (update_of (log l) (at l + mark_size (ed told))) p t.here
+      subst (λ (k : ℕ). CheckState (rule l) (n l) (log l) p (updates l + k)) (there_one (ed told) (log l) (at l))
+          (check_entry (rule l) (n l) (log l) (at l) (updates l) l.loop-bucket.invariant.1 (update_of (log l) (at l + mark_size (ed told))) p t.here
           (subst (λ (b : ℕ). b < n l) (sym (there_bucket (rule l) (ed told) (log l) (at l) (bucket told) (count told) p t)) c.if-n-bucket-2.false) (omega (arith, t.after, mark_some (ed told)))),
     )
 

@@ -3,7 +3,7 @@ use mathlib.Core.Path.{sym, ap, ◌∙◌}
 use borrow.Author.Tests.{not-true, not-false}
 use Rattle.answers.specs.Answers.{outcome_said}
 use Rattle.answers.specs.Refusals.{number_of}
-use Rattle.recover.proofs.Replays.{other-store, other-sync, bad-entry, all-good}
+use Rattle.recover.proofs.Replays.{other_store, other_sync, bad_entry, all_good}
 use borrow.Author.Rules.{rules}
 use Rattle.recover.proofs.check_started.Statement.{statement}
 use Rattle.recover.proofs.check_started.Tie as tie
@@ -14,7 +14,7 @@ of-store-requires c κs = search rules
 returns : tie.Need-returns-then-not-of_store
 returns c =
     let args = c.args in
-    other-store args.rule args.n args.log.now args.found args.want args.hashes (sym c.of_store.ensures ∙ c.if-not-of_store.true)
+    other_store args.rule args.n args.log.now args.found args.want args.hashes (sym c.of_store.ensures ∙ c.if-not-of_store.true)
 
 cast-if2 : tie.Need-overflow_cast-want
 cast-if2 c = search rules
@@ -24,7 +24,7 @@ returns-2 c =
     let else1 = c.before.before in
     let stored = else1.before in
     let args = stored.args in
-    other-sync args.rule args.n args.log.now args.found args.want args.hashes (sym stored.of_store.ensures ∙ else1.if-not-of_store.false) c.if-found-want.true
+    other_sync args.rule args.n args.log.now args.found args.want args.hashes (sym stored.of_store.ensures ∙ else1.if-not-of_store.false) c.if-found-want.true
 
 check-log-requires : tie.Need-check_log-checked-requires
 check-log-requires c κs = search rules
@@ -41,7 +41,7 @@ returns-3 c =
     let else1 = check.before.before.before in
     let stored = else1.before in
     let args = stored.args in
-    all-good args.rule args.n args.log.now args.found args.want args.hashes (sym stored.of_store.ensures ∙ else1.if-not-of_store.false) check.if-found-want.false
+    all_good args.rule args.n args.log.now args.found args.want args.hashes (sym stored.of_store.ensures ∙ else1.if-not-of_store.false) check.if-found-want.false
     (sym check.check_log-checked.ensures ∙ ap outcome_said c.in-Done.is)
 
 returns-4 : tie.Need-returns-in-Refused
@@ -50,7 +50,7 @@ returns-4 c =
     let else1 = check.before.before.before in
     let stored = else1.before in
     let args = stored.args in
-    bad-entry args.rule args.n args.log.now args.found args.want args.hashes (sym stored.of_store.ensures ∙ else1.if-not-of_store.false) check.if-found-want.false
+    bad_entry args.rule args.n args.log.now args.found args.want args.hashes (sym stored.of_store.ensures ∙ else1.if-not-of_store.false) check.if-found-want.false
     (number_of c.in-Refused.why) (sym check.check_log-checked.ensures ∙ ap outcome_said c.in-Refused.is)
 
 pub check_started_spec : {M : Type 1} → statement M

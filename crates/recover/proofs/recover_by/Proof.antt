@@ -7,7 +7,7 @@ use Rattle.answers.specs.Answers.{Answer, given}
 use Rattle.recover.specs.Places.{replayed}
 use Rattle.recover.specs.Replay.{Did, applied, replay_answer, image_by, steps_of, recovered_said}
 use Rattle.recover.proofs.Replays.{applied_told, others_leave}
-use Rattle.recover.proofs.Endings.{check-tolerant}
+use Rattle.recover.proofs.Endings.{check_tolerant}
 use borrow.Author.Rules.{rules}
 use Rattle.recover.proofs.recover_by.Statement.{statement}
 use Rattle.recover.proofs.recover_by.Tie as tie
@@ -48,7 +48,7 @@ run-requires c κs =
     let t = c.before.before in
     let rule = (start t).args.rule in
     let told = applied_told rule (start t).args.n (length (image t)) (log t) (start t).args.want (length (hashes t)) (sym (said t) ∙ ap recovered_said c.in-Applied.is) in
-    (told.0, check-tolerant rule (start t).args.n (log t) (length (hashes t)) told.1)
+    (told.0, check_tolerant rule (start t).args.n (log t) (length (hashes t)) told.1)
 
 same_length : tie.Need-shape_of-image
 same_length c = search rules

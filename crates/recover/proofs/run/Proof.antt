@@ -1,6 +1,6 @@
 -- k steps make replay of the first k entries, and at the end that is all of them; the log was checked, so no step refuses.
 -- Assumes nothing.
-use Rattle.recover.proofs.Runs.{Running, run_start, run_long, after-clear, after-update, at-the-end}
+use Rattle.recover.proofs.Runs.{Running, run_start, run_long, after_clear, after_update, at_the_end}
 use Rattle.recover.specs.Replay.{stepped_said, step_answer, step_image}
 use Rattle.ht_file.specs.Places.{image_fits}
 use Rattle.answers.specs.Answers.{given}
@@ -51,32 +51,32 @@ answer-is c =
     c.apply_at-step.ensures.0 ∙ ap (λ (e : Edition). step_answer Tolerant args.n at-loop.loop-next.image e args.log.now at-loop.loop-next.at) at-loop.loop-next.invariant.0
 
 -- a clear was applied
-after-cleared : (c : tie.In-Cleared invariant-loop decreases-loop)
+after_cleared : (c : tie.In-Cleared invariant-loop decreases-loop)
     → let called = c.before.before.before in
     let at-loop = called.before.before.before in
     let args = at-loop.args in
     (at-loop.loop-next.at + 9 ≤ c.in-Cleared.next) × (c.in-Cleared.next ≤ length args.log.now)
     × Running Tolerant args.n args.log.now args.hashes.now args.image.now called.apply_at-step.new.image c.in-Cleared.next at-loop.loop-next.used
-after-cleared c =
+after_cleared c =
     let called = c.before.before.before in
     let at-loop = called.before.before.before in
     let args = at-loop.args in
-    let s = after-clear Tolerant args.n args.log.now args.hashes.now args.image.now at-loop.loop-next.image at-loop.loop-next.at at-loop.loop-next.used at-loop.loop-next.invariant.1.1 (fits at-loop) c.in-Cleared.next
+    let s = after_clear Tolerant args.n args.log.now args.hashes.now args.image.now at-loop.loop-next.image at-loop.loop-next.at at-loop.loop-next.used at-loop.loop-next.invariant.1.1 (fits at-loop) c.in-Cleared.next
     (sym (ap stepped_said c.in-Cleared.is) ∙ answer-is called) in
     (s.0, s.1, subst (λ (l : List ℕ). Running Tolerant args.n args.log.now args.hashes.now args.image.now l c.in-Cleared.next at-loop.loop-next.used) (sym (image-is called)) (suc at-loop.loop-next.invariant.1.0, s.2))
 
 -- an update was applied
-after-updated : (c : tie.In-Updated invariant-loop decreases-loop)
+after_updated : (c : tie.In-Updated invariant-loop decreases-loop)
     → let called = c.before.before.before.before in
     let at-loop = called.before.before.before in
     let args = at-loop.args in
     (at-loop.loop-next.at + 9 ≤ c.in-Updated.next) × (c.in-Updated.next ≤ length args.log.now)
     × Running Tolerant args.n args.log.now args.hashes.now args.image.now called.apply_at-step.new.image c.in-Updated.next (at-loop.loop-next.used + 1)
-after-updated c =
+after_updated c =
     let called = c.before.before.before.before in
     let at-loop = called.before.before.before in
     let args = at-loop.args in
-    let s = after-update Tolerant args.n args.log.now args.hashes.now args.image.now at-loop.loop-next.image at-loop.loop-next.at at-loop.loop-next.used at-loop.loop-next.invariant.1.1 (fits at-loop) c.in-Updated.next
+    let s = after_update Tolerant args.n args.log.now args.hashes.now args.image.now at-loop.loop-next.image at-loop.loop-next.at at-loop.loop-next.used at-loop.loop-next.invariant.1.1 (fits at-loop) c.in-Updated.next
     (sym (ap stepped_said c.in-Updated.is) ∙ answer-is called) in
     (s.0, s.1, subst (λ (l : List ℕ). Running Tolerant args.n args.log.now args.hashes.now args.image.now l c.in-Updated.next (at-loop.loop-next.used + 1)) (sym (image-is called)) (suc at-loop.loop-next.invariant.1.0, s.2))
 
@@ -104,10 +104,10 @@ enum-known-step : tie.Need-enum_known-step invariant-loop decreases-loop
 enum-known-step c = search rules
 
 loop-less : tie.Need-loop-next-smaller-in-Cleared invariant-loop decreases-loop
-loop-less c = let s = after-cleared c in omega (arith, s.0, s.1)
+loop-less c = let s = after_cleared c in omega (arith, s.0, s.1)
 
 loop-again : tie.Need-loop-next-preserved-in-Cleared invariant-loop decreases-loop
-loop-again c = (c.loop-next.invariant.0, (after-cleared c).2)
+loop-again c = (c.loop-next.invariant.0, (after_cleared c).2)
 
 enum-known-step-2 : tie.Need-enum_known-step-in_default invariant-loop decreases-loop
 enum-known-step-2 c = search rules
@@ -116,16 +116,16 @@ same_length : tie.Need-shape_of-image-in_default-step invariant-loop decreases-l
 same_length c = let called = c.before.before.before.before in let at-loop = called.before.before.before in let args = at-loop.args in called.apply_at-step.auto.image ∙ run_long Tolerant args.n args.log.now args.hashes.now args.image.now at-loop.loop-next.image at-loop.loop-next.at at-loop.loop-next.used at-loop.loop-next.invariant.1.1
 
 returns : tie.Need-returns-in_default-step invariant-loop decreases-loop
-returns c = let called = c.before.before.before.before in let at-loop = called.before.before.before in let args = at-loop.args in image-is called ∙ at-the-end Tolerant args.n args.log.now args.hashes.now args.image.now at-loop.loop-next.image at-loop.loop-next.at at-loop.loop-next.used at-loop.loop-next.invariant.1.1 (fits at-loop) called.apply_at-step.result (answer-is called) c.in_default.in_default-own.keys2 c.in_default-step.in_default-step-own.keys2
+returns c = let called = c.before.before.before.before in let at-loop = called.before.before.before in let args = at-loop.args in image-is called ∙ at_the_end Tolerant args.n args.log.now args.hashes.now args.image.now at-loop.loop-next.image at-loop.loop-next.at at-loop.loop-next.used at-loop.loop-next.invariant.1.1 (fits at-loop) called.apply_at-step.result (answer-is called) c.in_default.in_default-own.keys2 c.in_default-step.in_default-step-own.keys2
 
 add-used : tie.Need-overflow_add-used invariant-loop decreases-loop
-add-used c = let s = after-updated c in omega (arith, s.0, s.1, s.2.1.few)
+add-used c = let s = after_updated c in omega (arith, s.0, s.1, s.2.1.few)
 
 loop-less-2 : tie.Need-loop-next-smaller invariant-loop decreases-loop
-loop-less-2 c = let s = after-updated c in omega (arith, s.0, s.1)
+loop-less-2 c = let s = after_updated c in omega (arith, s.0, s.1)
 
 loop-again-2 : tie.Need-loop-next-preserved invariant-loop decreases-loop
-loop-again-2 c = (c.loop-next.invariant.0, (after-updated c).2)
+loop-again-2 c = (c.loop-next.invariant.0, (after_updated c).2)
 
 pub run_spec : {M : Type 1} → statement M
 run_spec =

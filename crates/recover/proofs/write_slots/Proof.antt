@@ -5,7 +5,7 @@ use Rattle.recover.proofs.Parts.{part-put, part_long}
 use Rattle.recover.proofs.Pages.{nodes_at_lem}
 use Rattle.wal.specs.Reader.{nodes_from}
 use Rattle.page_diff.proofs.PackLaws.{put_up_to, put_none, put_turn, put_all}
-use Rattle.page_diff.proofs.Walk.{Walk, walk_start, walk-on, walk-slot, walk_step, walk_end, plain_count}
+use Rattle.page_diff.proofs.Walk.{Walk, walk_start, walk_on, walk_slot, walk_step, walk_end, plain_count}
 use Rattle.page_diff.specs.Diff.{slots, count_of}
 use Rattle.blocks.specs.Blocks.{put}
 use lib.ListN.{length, get_or}
@@ -26,7 +26,7 @@ decreases-loop page₀ log from c₀ left₀ page c left = count_of left₀.word
 on : (c : tie.Else-s-ge-NODES_PER_PAGE invariant-loop decreases-loop) → c.loop-next.c < count_of c.args.d.words
 on c =
     let at-loop = c.before.before in
-    walk-on at-loop.args.d.words at-loop.loop-next.left.words at-loop.loop-next.c c.next_slot-next.result.slot at-loop.loop-next.invariant.0 c.next_slot-next.ensures.0 (omega arith)
+    walk_on at-loop.args.d.words at-loop.loop-next.left.words at-loop.loop-next.c c.next_slot-next.result.slot at-loop.loop-next.invariant.0 c.next_slot-next.ensures.0 (omega arith)
 
 few : (c : tie.Else-s-ge-NODES_PER_PAGE invariant-loop decreases-loop) → c.loop-next.c < 126
 few c = omega (arith, on c, plain_count c.args.d.words c.requires.1)
@@ -77,7 +77,7 @@ loop-less : tie.Need-loop-next-smaller invariant-loop decreases-loop
 loop-less c = omega (arith, on c.before.before.before.before.before.before)
 
 loop-again : tie.Need-loop-next-preserved invariant-loop decreases-loop
-loop-again c = let called = c.before.before.before in let turn = called.before.before.before in let at-loop = turn.before.before in let start = at-loop.before.before.before in let args = start.args in let ws = args.d.words in let ns = nodes_from args.log.now args.from (count_of ws) in let s = turn.next_slot-next.result.slot in let k = at-loop.loop-next.c in let node = called.block_32-node.result in let put-there : put_mid (32 * s) (32 * s + 32 - 32 * s) at-loop.loop-next.page called.write_node.new.part ≡ put at-loop.loop-next.page (32 * s) node = ap (put_mid (32 * s) (32 * s + 32 - 32 * s) at-loop.loop-next.page) called.write_node.ensures.0 ∙ part-put (32 * s) (32 * s + 32) at-loop.loop-next.page node (omega arith) (omega (arith, at-loop.loop-next.invariant.1.0, turn.if-s-ge-NODES_PER_PAGE.false)) (omega (arith, called.write_node.ensures.1)) in (walk_step ws at-loop.loop-next.left.words k s at-loop.loop-next.invariant.0 turn.next_slot-next.ensures.0 turn.next_slot-next.result.rest.words (omega (arith, turn.if-s-ge-NODES_PER_PAGE.false)) turn.next_slot-next.ensures.1, (ap length put-there ∙ put-length at-loop.loop-next.page (32 * s) node ∙ at-loop.loop-next.invariant.1.0, λ j h. ap (λ (l : List ℕ). get_or l j 0) put-there ∙ put_turn ws ns args.page.now at-loop.loop-next.page k s (walk-slot ws at-loop.loop-next.left.words k s at-loop.loop-next.invariant.0 turn.next_slot-next.ensures.0 (omega (arith, turn.if-s-ge-NODES_PER_PAGE.false))) node (called.block_32-node.ensures ∙ sym (nodes_at_lem args.log.now args.from (count_of ws) k (on turn))) called.write_node.ensures.1 at-loop.loop-next.invariant.1.0 turn.if-s-ge-NODES_PER_PAGE.false at-loop.loop-next.invariant.1.1 j h))
+loop-again c = let called = c.before.before.before in let turn = called.before.before.before in let at-loop = turn.before.before in let start = at-loop.before.before.before in let args = start.args in let ws = args.d.words in let ns = nodes_from args.log.now args.from (count_of ws) in let s = turn.next_slot-next.result.slot in let k = at-loop.loop-next.c in let node = called.block_32-node.result in let put_there : put_mid (32 * s) (32 * s + 32 - 32 * s) at-loop.loop-next.page called.write_node.new.part ≡ put at-loop.loop-next.page (32 * s) node = ap (put_mid (32 * s) (32 * s + 32 - 32 * s) at-loop.loop-next.page) called.write_node.ensures.0 ∙ part-put (32 * s) (32 * s + 32) at-loop.loop-next.page node (omega arith) (omega (arith, at-loop.loop-next.invariant.1.0, turn.if-s-ge-NODES_PER_PAGE.false)) (omega (arith, called.write_node.ensures.1)) in (walk_step ws at-loop.loop-next.left.words k s at-loop.loop-next.invariant.0 turn.next_slot-next.ensures.0 turn.next_slot-next.result.rest.words (omega (arith, turn.if-s-ge-NODES_PER_PAGE.false)) turn.next_slot-next.ensures.1, (ap length put_there ∙ put-length at-loop.loop-next.page (32 * s) node ∙ at-loop.loop-next.invariant.1.0, λ j h. ap (λ (l : List ℕ). get_or l j 0) put_there ∙ put_turn ws ns args.page.now at-loop.loop-next.page k s (walk_slot ws at-loop.loop-next.left.words k s at-loop.loop-next.invariant.0 turn.next_slot-next.ensures.0 (omega (arith, turn.if-s-ge-NODES_PER_PAGE.false))) node (called.block_32-node.ensures ∙ sym (nodes_at_lem args.log.now args.from (count_of ws) k (on turn))) called.write_node.ensures.1 at-loop.loop-next.invariant.1.0 turn.if-s-ge-NODES_PER_PAGE.false at-loop.loop-next.invariant.1.1 j h))
 
 pub write_slots_spec : {M : Type 1} → statement M
 write_slots_spec =

@@ -9,7 +9,7 @@ use Rattle.meta_map.specs.Tags.{full_tag}
 use Rattle.probe.specs.declared.Limit.{Limit}
 use Rattle.probe.specs.Path.{hit_limit, allocating, allocate_answer, allocated_tags, tags_after}
 use Rattle.rehash.specs.Growth.{end_of, image_or}
-use Rattle.rehash.proofs.Moves.{allocation-is, given_below, tag-set, moved-full}
+use Rattle.rehash.proofs.Moves.{allocation_is, given_below, tag_set, moved_full}
 use Rattle.rehash.proofs.move_bucket.Goals as goal
 
 -- the tag pages were lent to allocation, which gave bucket b: the image then has its tag
@@ -18,7 +18,7 @@ module _ (n h : ℕ) (img : List ℕ) (fits : image_fits n (length img) ≡ true
   tags-at = placed ∙ tags_end n (image_fits_facts n (length img) fits).1
 
   is-answered : allocate_answer limit (take at img) n h ≡ allocating hit_limit (tags_of n img) n h
-  is-answered = ap₂ (λ (l : Limit) (t : ℕ). allocate_answer l (take t img) n h) limited tags-at ∙ allocation-is n img fits hit_limit h
+  is-answered = ap₂ (λ (l : Limit) (t : ℕ). allocate_answer l (take t img) n h) limited tags-at ∙ allocation_is n img fits hit_limit h
 
   gave : allocating hit_limit (tags_of n img) n h ≡ given b
   gave = sym is-answered ∙ sym answered
@@ -30,7 +30,7 @@ module _ (n h : ℕ) (img : List ℕ) (fits : image_fits n (length img) ≡ true
   tagged tags e =
       ap₂ (λ (l : List ℕ) (t : ℕ). l ++ drop t img)
       (e ∙ ap₂ (λ (x : Answer ℕ) (t : ℕ). tags_after x (take t img) h) (is-answered ∙ gave) tags-at) tags-at
-      ∙ tag-set n img fits b (full_tag h) below
+      ∙ tag_set n img fits b (full_tag h) below
 
 pub copy_page-requires : goal.copy_page-requires
 copy_page-requires c =
@@ -59,7 +59,7 @@ returns-in-At c =
     let is = tagged a.new_n a.hash img c.requires.2 at c.page_start-tags.ensures c.hit_limit.result c.hit_limit.ensures b c.in-At.ensures.0 c.allocate_bucket-r.new.tags c.in-At.ensures.1 in
     let to : c.page_start-at.result ≡ page_start a.new_n b = c.page_start-at.ensures ∙ start_is a.new_n b new.1 (omega arith) in
     let from : c.page_start-from.result ≡ page_start a.old_n a.b = c.page_start-from.ensures ∙ start_is a.old_n a.b old.1 (omega arith) in
-    let e = moved-full hit_limit a.old_image.now a.old_n a.new_n a.hash a.b img (sym c.if-is_full.ensures) (given b) gives in (
+    let e = moved_full hit_limit a.old_image.now a.old_n a.new_n a.hash a.b img (sym c.if-is_full.ensures) (given b) gives in (
       sym (ap (end_of tt) e),
       c.copy_page.ensures
           ∙ ap₂ (λ (l : List ℕ) (p : ℕ × ℕ). put l p.0 (block 4096 a.old_image.now p.1)) is (ap₂ (λ (x y : ℕ). (x, y)) to from)

@@ -4,7 +4,7 @@ use borrow.Author.Tests.{le-leb, lt-leb}
 use Rattle.blocks.specs.Blocks.{le, block}
 use Rattle.blocks.proofs.Laws.{AllBytes}
 use Rattle.rehash.specs.Marker.{counts_of, read_answer}
-use Rattle.rehash.proofs.Markers.{magic_number, magic-is, magic-not, read_short, read-other, read-counts}
+use Rattle.rehash.proofs.Markers.{magic_number, magic_is, magic_not, read_short, read_other, read_counts}
 use Rattle.rehash.proofs.read_marker.Goals as goal
 
 pub returns-then-bytes-ne-MARKER_LEN : goal.returns-then-bytes-ne-MARKER_LEN
@@ -14,11 +14,11 @@ pub returns-then-magic-ne-MARKER_MAGIC : goal.returns-then-magic-ne-MARKER_MAGIC
 returns-then-magic-ne-MARKER_MAGIC c =
     let bs = c.args.bytes.now in
     let long = c.if-bytes-ne-MARKER_LEN.false in
-    sym (read-other bs long (magic-not bs long (λ e. c.if-magic-ne-MARKER_MAGIC.true (c.read_u64-magic.ensures ∙ e))))
+    sym (read_other bs long (magic_not bs long (λ e. c.if-magic-ne-MARKER_MAGIC.true (c.read_u64-magic.ensures ∙ e))))
 
 -- it is a marker: what its counts are
 counted : (bs : List ℕ) → length bs ≡ 16 → AllBytes bs → le (block 8 bs 0) ≡ magic_number → (o n : ℕ) → o ≡ le (block 4 bs 8) → n ≡ le (block 4 bs 12) → read_answer bs ≡ counts_of o n
-counted bs long bytes magic o n eo en = read-counts bs long (magic-is bs long bytes magic) ∙ ap₂ counts_of (sym eo) (sym en)
+counted bs long bytes magic o n eo en = read_counts bs long (magic_is bs long bytes magic) ∙ ap₂ counts_of (sym eo) (sym en)
 
 pub returns-then-new-old : goal.returns-then-new-old
 returns-then-new-old c =

@@ -15,7 +15,7 @@ use Rattle.probe.specs.declared.Limit.{Limit}
 use Rattle.wal.specs.Run.{WideStart}
 use Rattle.sync.specs.Change.{mem_of, state_of}
 use Rattle.sync.specs.declared.SyncStart.{SyncStart}
-use Rattle.sync.proofs.StartLaws.{start-unfit, start-pages, start-marks, start-begin, begin-refused, begin_given, begun-left, begun-open}
+use Rattle.sync.proofs.StartLaws.{start_unfit, start_pages, start_marks, start_begin, begin_refused, begin_given, begun_left, begun_open}
 use Rattle.sync.proofs.Widths.{typed_start}
 use borrow.Author.Rules.{rules}
 use Rattle.sync.proofs.begin_sync.Statement.{statement}
@@ -71,22 +71,22 @@ enum-known-fit : tie.Need-enum_known-fit
 enum-known-fit c = search rules
 
 returns : tie.Need-returns-in-Refused
-returns c = let o = c.before.before.before.before.before.before in let why = c.in-Refused.why in begin-refused (s o).n (tags o) (marks o) (log o) (pages o) (count o) (s o).log_start (s o).writer (wide o) (number_of why) (start-unfit (s o).n (tags o) (marks o) (log o) (pages o) (count o) (number_of why) (sym c.check_tags-fit.ensures ∙ ap outcome_said c.in-Refused.is))
+returns c = let o = c.before.before.before.before.before.before in let why = c.in-Refused.why in begin_refused (s o).n (tags o) (marks o) (log o) (pages o) (count o) (s o).log_start (s o).writer (wide o) (number_of why) (start_unfit (s o).n (tags o) (marks o) (log o) (pages o) (count o) (number_of why) (sym c.check_tags-fit.ensures ∙ ap outcome_said c.in-Refused.is))
 
 enum_told : tie.Need-enum_told-1
 enum_told c = search rules
 
 returns-2 : tie.Need-returns-then-pages-count
-returns-2 c = let t = c.before in let o = start t in begin-refused (s o).n (tags o) (marks o) (log o) (pages o) (count o) (s o).log_start (s o).writer (wide o) 2 (start-pages (s o).n (tags o) (marks o) (log o) (pages o) (count o) (fits t) (λ e. c.if-pages-count.true (omega (arith, e))))
+returns-2 c = let t = c.before in let o = start t in begin_refused (s o).n (tags o) (marks o) (log o) (pages o) (count o) (s o).log_start (s o).writer (wide o) 2 (start_pages (s o).n (tags o) (marks o) (log o) (pages o) (count o) (fits t) (λ e. c.if-pages-count.true (omega (arith, e))))
 
 returns-3 : tie.Need-returns-then-pages-ne0
-returns-3 c = let t = c.before.before in let o = start t in begin-refused (s o).n (tags o) (marks o) (log o) (pages o) (count o) (s o).log_start (s o).writer (wide o) 2 (start-pages (s o).n (tags o) (marks o) (log o) (pages o) (count o) (fits t) (λ e. c.if-pages-ne0.true (omega (arith, e))))
+returns-3 c = let t = c.before.before in let o = start t in begin_refused (s o).n (tags o) (marks o) (log o) (pages o) (count o) (s o).log_start (s o).writer (wide o) 2 (start_pages (s o).n (tags o) (marks o) (log o) (pages o) (count o) (fits t) (λ e. c.if-pages-ne0.true (omega (arith, e))))
 
 tag-pages-requires : tie.Need-tag_pages-requires
 tag-pages-requires c κs = search rules
 
 returns-4 : tie.Need-returns-then-marks-tag_pages
-returns-4 c = let e = c.before.before in let t = e.before.before in let o = start t in begin-refused (s o).n (tags o) (marks o) (log o) (pages o) (count o) (s o).log_start (s o).writer (wide o) 2 (start-marks (s o).n (tags o) (marks o) (log o) (pages o) (count o) (fits t) (whole e) (λ q. c.if-marks-tag_pages.true (q ∙ sym c.tag_pages.ensures)))
+returns-4 c = let e = c.before.before in let t = e.before.before in let o = start t in begin_refused (s o).n (tags o) (marks o) (log o) (pages o) (count o) (s o).log_start (s o).writer (wide o) 2 (start_marks (s o).n (tags o) (marks o) (log o) (pages o) (count o) (fits t) (whole e) (λ q. c.if-marks-tag_pages.true (q ∙ sym c.tag_pages.ensures)))
 
 begin-requires : tie.Need-begin-begun-requires
 begin-requires c κs = search rules
@@ -98,7 +98,7 @@ same_length : tie.Need-shape_of-log-in-Refused-outcome
 same_length c = search rules
 
 returns-5 : tie.Need-returns-in-Refused-outcome
-returns-5 c = let u = c.before.before.before.before.before.before in let e = u.before.before in let t = e.before.before in let o = start t in let b = c.begin-begun in let why = c.in-Refused-outcome.why in let h = sym b.ensures.0 ∙ ap outcome_said c.in-Refused-outcome.is in let g = begin-refused (s o).n (tags o) (marks o) (log o) (pages o) (count o) (s o).log_start (s o).writer (wide o) (number_of why) (start-begin (s o).n (tags o) (marks o) (log o) (pages o) (count o) (fits t) (whole e) (marked u) ∙ h) in (g.0, (ap (mem_of (tags o) (marks o) []) (b.ensures.1.1 ∙ begun-left (log o) (s o).log_start (number_of why) h) ∙ g.1.0, g.1.1))
+returns-5 c = let u = c.before.before.before.before.before.before in let e = u.before.before in let t = e.before.before in let o = start t in let b = c.begin-begun in let why = c.in-Refused-outcome.why in let h = sym b.ensures.0 ∙ ap outcome_said c.in-Refused-outcome.is in let g = begin_refused (s o).n (tags o) (marks o) (log o) (pages o) (count o) (s o).log_start (s o).writer (wide o) (number_of why) (start_begin (s o).n (tags o) (marks o) (log o) (pages o) (count o) (fits t) (whole e) (marked u) ∙ h) in (g.0, (ap (mem_of (tags o) (marks o) []) (b.ensures.1.1 ∙ begun_left (log o) (s o).log_start (number_of why) h) ∙ g.1.0, g.1.1))
 
 enum-told-2 : tie.Need-enum_told-in_default-outcome
 enum-told-2 c = search rules
@@ -119,7 +119,7 @@ same-length-3 : tie.Need-shape_of-log
 same-length-3 c = search rules
 
 returns-6 : tie.Need-returns
-returns-6 c = let u = c.before.before.before.before.before.before.before.before.before.before.before.before in let e = u.before.before in let t = e.before.before in let o = start t in let b = c.begin-begun in let h = sym b.ensures.0 ∙ ap outcome_said c.in_default-outcome.is in begin_given (s o).n (tags o) (marks o) (log o) (pages o) (count o) (s o).log_start (s o).writer (wide o) (state_of (s o).n c.hit_limit.result b.result.writer c.full_tags.result) (mem_of (tags o) c.zero_all.new.s [] b.new.log) (start-begin (s o).n (tags o) (marks o) (log o) (pages o) (count o) (fits t) (whole e) (marked u) ∙ h) (ap (λ (x : Limit). state_of (s o).n x b.result.writer c.full_tags.result) c.hit_limit.ensures ∙ ap₂ (state_of (s o).n hit_limit) (b.ensures.1.0 ∙ begun-open (log o) (s o).log_start h) (c.full_tags.ensures ∙ ap (λ (y : Bool). cond y (count_of full (tags o) (s o).n) 0) (fits t))) (ap₂ (λ (x y : List ℕ). mem_of (tags o) x [] y) c.zero_all.ensures b.ensures.1.1)
+returns-6 c = let u = c.before.before.before.before.before.before.before.before.before.before.before.before in let e = u.before.before in let t = e.before.before in let o = start t in let b = c.begin-begun in let h = sym b.ensures.0 ∙ ap outcome_said c.in_default-outcome.is in begin_given (s o).n (tags o) (marks o) (log o) (pages o) (count o) (s o).log_start (s o).writer (wide o) (state_of (s o).n c.hit_limit.result b.result.writer c.full_tags.result) (mem_of (tags o) c.zero_all.new.s [] b.new.log) (start_begin (s o).n (tags o) (marks o) (log o) (pages o) (count o) (fits t) (whole e) (marked u) ∙ h) (ap (λ (x : Limit). state_of (s o).n x b.result.writer c.full_tags.result) c.hit_limit.ensures ∙ ap₂ (state_of (s o).n hit_limit) (b.ensures.1.0 ∙ begun_open (log o) (s o).log_start h) (c.full_tags.ensures ∙ ap (λ (y : Bool). cond y (count_of full (tags o) (s o).n) 0) (fits t))) (ap₂ (λ (x y : List ℕ). mem_of (tags o) x [] y) c.zero_all.ensures b.ensures.1.1)
 
 pub begin_sync_spec : {M : Type 1} → statement M
 begin_sync_spec =

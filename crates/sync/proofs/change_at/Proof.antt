@@ -11,7 +11,7 @@ use Rattle.sync.specs.declared.Change.{Change}
 use Rattle.sync.specs.declared.Run.{Run}
 use Rattle.sync.specs.declared.SyncState.{SyncState}
 use Rattle.sync.specs.declared.Run.TheVariants as run
-use Rattle.sync.proofs.StartLaws.{page-there, page-none, change_none, change-refused, change-given, change-mem}
+use Rattle.sync.proofs.StartLaws.{page_there, page_none, change_none, change_refused, change_given, change_mem_lem}
 use borrow.Author.Rules.{rules}
 use Rattle.sync.proofs.Widths.{typed_wide}
 use Rattle.sync.proofs.change_at.Statement.{statement}
@@ -61,10 +61,10 @@ module _ (c : tie.Joined-j-pages) where
       elim c.if-j-pages.branch [
         | then-j-pages h ↦
             let k : e - a ≡ 4096 = omega arith in
-            ap₂ (λ (x y : ℕ). take x (drop y pages)) k h.a-is ∙ sym (page-there pages j h.if-j-pages.true)
+            ap₂ (λ (x y : ℕ). take x (drop y pages)) k h.a-is ∙ sym (page_there pages j h.if-j-pages.true)
         | else-j-pages h ↦
             let k : e - a ≡ 0 = omega arith in
-            ap₂ (λ (x y : ℕ). take x (drop y pages)) k h.a-is ∙ sym (page-none pages j h.if-j-pages.false)
+            ap₂ (λ (x y : ℕ). take x (drop y pages)) k h.a-is ∙ sym (page_none pages j h.if-j-pages.false)
       ]
 
   -- what it is told on of: the sync as it was lent
@@ -114,7 +114,7 @@ same-length-4 : tie.Need-shape_of-log-in-Refused
 same-length-4 c = search rules
 
 returns-2 : tie.Need-returns-in-Refused
-returns-2 c = let u = c.before.before.before.before.before.before.before.before.before in let q = u.before.before.before.before.before.before.before.before in let r = u.step-s in ((change-refused (st q) (m q) (pages q) (page q) (ch q) (j q) (same q) r.result.taken r.ensures.taken c.in-Refused.why c.in-Refused.is ∙ as-going q, change-mem (st q) (m q) (pages q) (page q) (ch q) (j q) (same q) (mem_of r.new.tags r.new.marks r.new.cells r.new.log) r.ensures.memory ∙ as-left q), typed_wide c.args.c _ c.well_formed.1.1.1.1.1.0)
+returns-2 c = let u = c.before.before.before.before.before.before.before.before.before in let q = u.before.before.before.before.before.before.before.before in let r = u.step-s in ((change_refused (st q) (m q) (pages q) (page q) (ch q) (j q) (same q) r.result.taken r.ensures.taken c.in-Refused.why c.in-Refused.is ∙ as-going q, change_mem_lem (st q) (m q) (pages q) (page q) (ch q) (j q) (same q) (mem_of r.new.tags r.new.marks r.new.cells r.new.log) r.ensures.memory ∙ as-left q), typed_wide c.args.c _ c.well_formed.1.1.1.1.1.0)
 
 enum_told : tie.Need-enum_told-1
 enum_told c = search rules
@@ -132,7 +132,7 @@ same-length-8 : tie.Need-shape_of-log
 same-length-8 c = search rules
 
 returns-3 : tie.Need-returns
-returns-3 c = let u = c.before.before.before.before.before.before.before.before.before.before in let q = u.before.before.before.before.before.before.before.before in let r = u.step-s in ((change-given (st q) (m q) (pages q) (page q) (ch q) (j q) (same q) r.result.taken r.ensures.taken r.result.state r.ensures.state c.in_default-t.in_default-t-own.keys2 ∙ as-going q, change-mem (st q) (m q) (pages q) (page q) (ch q) (j q) (same q) (mem_of r.new.tags r.new.marks r.new.cells r.new.log) r.ensures.memory ∙ as-left q), typed_wide c.args.c _ c.well_formed.1.1.1.1.1.0)
+returns-3 c = let u = c.before.before.before.before.before.before.before.before.before.before in let q = u.before.before.before.before.before.before.before.before in let r = u.step-s in ((change_given (st q) (m q) (pages q) (page q) (ch q) (j q) (same q) r.result.taken r.ensures.taken r.result.state r.ensures.state c.in_default-t.in_default-t-own.keys2 ∙ as-going q, change_mem_lem (st q) (m q) (pages q) (page q) (ch q) (j q) (same q) (mem_of r.new.tags r.new.marks r.new.cells r.new.log) r.ensures.memory ∙ as-left q), typed_wide c.args.c _ c.well_formed.1.1.1.1.1.0)
 
 pub change_at_spec : {M : Type 1} → statement M
 change_at_spec =

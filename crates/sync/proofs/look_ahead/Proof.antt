@@ -1,10 +1,10 @@
 -- The plan, then the test of room, then the search for a bucket: each as the definition has it. Assumes nothing.
-use Rattle.sync.proofs.Plans.{does-clears, does-updates, does-allocates}
+use Rattle.sync.proofs.Plans.{does_clears, does_updates, does_allocates}
 use Rattle.sync.specs.Change.{mem_of, cleared, updated, by_bucket, after_does}
 use Rattle.sync.specs.InnerChange.{planned_said}
 use Rattle.wal_write.specs.Calls.{room_in}
 use Rattle.wal.specs.Log.{update_body}
-use Rattle.probe.proofs.Allocating.{answer-below}
+use Rattle.probe.proofs.Allocating.{answer_below}
 use Rattle.probe.specs.Path.{allocating, allocate_answer, allocated_said}
 use Rattle.page_diff.specs.Diff.{count_of}
 use Rattle.answers.specs.Refusals.{number_of}
@@ -37,7 +37,7 @@ has-room-requires : tie.Need-has_room-requires
 has-room-requires c κs = search rules
 
 returns : tie.Need-returns-then-has_room
-returns c = let room = c.before in let told = room.before.before in let planned-at = told.before in let start = planned-at.before.before.before.before.before in let args = start.args in let st = args.st in let ch = args.c in let tags = args.tags.now in let cells = args.cells.now in let log = args.log.now in let m = mem_of tags [] cells log in let b = told.in-Clears.b in let d = sym planned-at.plan-planned.ensures ∙ ap planned_said told.in-Clears.is in let fits = sym (room.has_room.ensures ∙ ap (room_in (length log) st.writer) room.body_of.ensures) ∙ c.if-has_room.true in (sym (ap (after_does st m ch) d ∙ ap (λ (t : Bool). cond t (given (cleared b)) (refused 13)) fits), (does-clears st.n tags cells ch b d, fits))
+returns c = let room = c.before in let told = room.before.before in let planned-at = told.before in let start = planned-at.before.before.before.before.before in let args = start.args in let st = args.st in let ch = args.c in let tags = args.tags.now in let cells = args.cells.now in let log = args.log.now in let m = mem_of tags [] cells log in let b = told.in-Clears.b in let d = sym planned-at.plan-planned.ensures ∙ ap planned_said told.in-Clears.is in let fits = sym (room.has_room.ensures ∙ ap (room_in (length log) st.writer) room.body_of.ensures) ∙ c.if-has_room.true in (sym (ap (after_does st m ch) d ∙ ap (λ (t : Bool). cond t (given (cleared b)) (refused 13)) fits), (does_clears st.n tags cells ch b d, fits))
 
 enum-known-planned-3 : tie.Need-enum_known-planned-in-Updates-1
 enum-known-planned-3 c = search rules
@@ -49,7 +49,7 @@ has-room-requires-2 : tie.Need-has_room-requires-in-Updates
 has-room-requires-2 c κs = search rules
 
 returns-2 : tie.Need-returns-then-has_room-2
-returns-2 c = let room = c.before in let told = room.before.before in let planned-at = told.before in let start = planned-at.before.before.before.before.before in let args = start.args in let st = args.st in let ch = args.c in let tags = args.tags.now in let cells = args.cells.now in let log = args.log.now in let m = mem_of tags [] cells log in let b = told.in-Updates.b in let d = sym planned-at.plan-planned.ensures ∙ ap planned_said told.in-Updates.is in let fits : room_in (length log) st.writer (update_body (count_of ch.diff.words)) ≡ true = sym (room.has_room-in-Updates.ensures ∙ ap (room_in (length log) st.writer) room.body_of-in-Updates.ensures) ∙ c.if-has_room-2.true in let q = does-updates st.n tags cells ch b d in (sym (ap (after_does st m ch) d ∙ ap (λ (t : Bool). cond t (given (updated b)) (refused 13)) fits), (q.0, fits, q.1))
+returns-2 c = let room = c.before in let told = room.before.before in let planned-at = told.before in let start = planned-at.before.before.before.before.before in let args = start.args in let st = args.st in let ch = args.c in let tags = args.tags.now in let cells = args.cells.now in let log = args.log.now in let m = mem_of tags [] cells log in let b = told.in-Updates.b in let d = sym planned-at.plan-planned.ensures ∙ ap planned_said told.in-Updates.is in let fits : room_in (length log) st.writer (update_body (count_of ch.diff.words)) ≡ true = sym (room.has_room-in-Updates.ensures ∙ ap (room_in (length log) st.writer) room.body_of-in-Updates.ensures) ∙ c.if-has_room-2.true in let q = does_updates st.n tags cells ch b d in (sym (ap (after_does st m ch) d ∙ ap (λ (t : Bool). cond t (given (updated b)) (refused 13)) fits), (q.0, fits, q.1))
 
 enum_told : tie.Need-enum_told-1
 enum_told c = search rules
@@ -79,7 +79,7 @@ returns-5 : tie.Need-returns-else-has_room-2
 returns-5 c = let room = c.before in let told = room.before.before in let planned-at = told.before in let start = planned-at.before.before.before.before.before in let args = start.args in let st = args.st in let ch = args.c in let tags = args.tags.now in let cells = args.cells.now in let log = args.log.now in let m = mem_of tags [] cells log in let b = told.in-Updates.b in let d = sym planned-at.plan-planned.ensures ∙ ap planned_said told.in-Updates.is in let full : room_in (length log) st.writer (update_body (count_of ch.diff.words)) ≡ false = sym (room.has_room-in-Updates.ensures ∙ ap (room_in (length log) st.writer) room.body_of-in-Updates.ensures) ∙ c.if-has_room-2.false in (sym (ap (after_does st m ch) d ∙ ap (λ (t : Bool). cond t (given (updated b)) (refused 13)) full), tt)
 
 returns-6 : tie.Need-returns-in-At
-returns-6 c = let found = c.before in let room = found.before.before in let planned-at = room.before.before.before in let start = planned-at.before.before.before.before.before in let args = start.args in let st = args.st in let ch = args.c in let tags = args.tags.now in let cells = args.cells.now in let log = args.log.now in let m = mem_of tags [] cells log in let b = c.in-At.b in let d = sym planned-at.plan-planned.ensures ∙ ap planned_said room.in-Allocates.is in let fits : room_in (length log) st.writer (update_body (count_of ch.diff.words)) ≡ true = sym (room.has_room-in-Allocates.ensures ∙ ap (room_in (length log) st.writer) room.body_of-in-Allocates.ensures) ∙ found.if-has_room-3.true in let a : allocate_answer st.limit tags st.n ch.hash ≡ given b = sym found.find_bucket-found.ensures ∙ ap allocated_said c.in-At.is in (sym (ap (after_does st m ch) d ∙ ap (λ (t : Bool). cond t (by_bucket (allocating st.limit tags st.n ch.hash)) (refused 13)) fits ∙ ap by_bucket (fitting start ∙ a)), ((answer-below st.limit tags st.n ch.hash b a).0, fits, does-allocates st.n tags cells ch d))
+returns-6 c = let found = c.before in let room = found.before.before in let planned-at = room.before.before.before in let start = planned-at.before.before.before.before.before in let args = start.args in let st = args.st in let ch = args.c in let tags = args.tags.now in let cells = args.cells.now in let log = args.log.now in let m = mem_of tags [] cells log in let b = c.in-At.b in let d = sym planned-at.plan-planned.ensures ∙ ap planned_said room.in-Allocates.is in let fits : room_in (length log) st.writer (update_body (count_of ch.diff.words)) ≡ true = sym (room.has_room-in-Allocates.ensures ∙ ap (room_in (length log) st.writer) room.body_of-in-Allocates.ensures) ∙ found.if-has_room-3.true in let a : allocate_answer st.limit tags st.n ch.hash ≡ given b = sym found.find_bucket-found.ensures ∙ ap allocated_said c.in-At.is in (sym (ap (after_does st m ch) d ∙ ap (λ (t : Bool). cond t (by_bucket (allocating st.limit tags st.n ch.hash)) (refused 13)) fits ∙ ap by_bucket (fitting start ∙ a)), ((answer_below st.limit tags st.n ch.hash b a).0, fits, does_allocates st.n tags cells ch d))
 
 returns-7 : tie.Need-returns-in-Refused-found
 returns-7 c = let found = c.before in let room = found.before.before in let planned-at = room.before.before.before in let start = planned-at.before.before.before.before.before in let args = start.args in let st = args.st in let ch = args.c in let tags = args.tags.now in let cells = args.cells.now in let log = args.log.now in let m = mem_of tags [] cells log in let k = number_of c.in-Refused-found.why in let d = sym planned-at.plan-planned.ensures ∙ ap planned_said room.in-Allocates.is in let fits : room_in (length log) st.writer (update_body (count_of ch.diff.words)) ≡ true = sym (room.has_room-in-Allocates.ensures ∙ ap (room_in (length log) st.writer) room.body_of-in-Allocates.ensures) ∙ found.if-has_room-3.true in let a : allocate_answer st.limit tags st.n ch.hash ≡ refused k = sym found.find_bucket-found.ensures ∙ ap allocated_said c.in-Refused-found.is in (sym (ap (after_does st m ch) d ∙ ap (λ (t : Bool). cond t (by_bucket (allocating st.limit tags st.n ch.hash)) (refused 13)) fits ∙ ap by_bucket (fitting start ∙ a)), tt)

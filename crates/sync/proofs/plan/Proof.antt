@@ -1,6 +1,6 @@
 -- Bit 126, then what the place names, then the tag rule: each as the definition has it. Assumes nothing.
 use Rattle.sync_parts.proofs.PartLaws.{no_name}
-use Rattle.sync.proofs.Plans.{spare-holds, spare_fails, plan-spare, plan-by}
+use Rattle.sync.proofs.Plans.{spare_holds, spare_fails, plan_spare, plan_by}
 use Rattle.sync.specs.Change.{by_named, does_of, allocates}
 use Rattle.sync_parts.specs.Parts.{Named, bucket, none, named_by, name_said}
 use Rattle.sync_parts.specs.declared.Where.{Where}
@@ -20,7 +20,7 @@ by_name c a e =
     let placed = c.before in
     let asked = placed.before.before.before.before in
     let args = asked.args in
-    plan-by args.n args.tags.now args.cells.now args.c placed.cleared-clearing.result a
+    plan_by args.n args.tags.now args.cells.now args.c placed.cleared-clearing.result a
     (spare_fails args.c.diff.words asked.changed-spare.result asked.changed-spare.ensures placed.in_default.in_default-own.keys2)
     placed.cleared-clearing.ensures (e ∙ c.name_of-name.ensures ∙ ap (λ (w : Where). named_by w args.cells.now) placed.where_of.ensures)
 
@@ -31,7 +31,7 @@ enum_told : tie.Need-enum_told-1
 enum_told c = search rules
 
 returns : tie.Need-returns-in-Holds
-returns c = let asked = c.before in let args = asked.args in sym (plan-spare args.n args.tags.now args.cells.now args.c (spare-holds args.c.diff.words asked.changed-spare.result asked.changed-spare.ensures c.in-Holds.is))
+returns c = let asked = c.before in let args = asked.args in sym (plan_spare args.n args.tags.now args.cells.now args.c (spare_holds args.c.diff.words asked.changed-spare.result asked.changed-spare.ensures c.in-Holds.is))
 
 cleared-requires : tie.Need-cleared-clearing-requires
 cleared-requires c κs = search rules

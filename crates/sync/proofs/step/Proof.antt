@@ -17,7 +17,7 @@ use Rattle.sync.specs.declared.Change.{Change}
 use Rattle.sync.specs.declared.SyncState.{SyncState}
 use Rattle.sync.specs.declared.Outlook.{Outlook}
 use Rattle.sync.specs.declared.Outlook.TheVariants as outlook
-use Rattle.sync.proofs.StepLaws.{Opened, step-unfit, step-page, step-marks, step-closed, step-ahead, refused-left, given-left, clear-taken, page-taken, clear-state, clear-bytes, page-state, page-bytes}
+use Rattle.sync.proofs.StepLaws.{Opened, step_unfit, step_page, step_marks, step_closed, step_ahead, refused_left, given_left, clear_taken, page_taken, clear_state, clear_bytes_lem, page_state, page_bytes}
 use Rattle.sync.proofs.Widths.{typed_wide}
 use borrow.Author.Rules.{rules}
 use Rattle.sync.proofs.step.Statement.{statement}
@@ -85,7 +85,7 @@ module _ (c : tie.After-look_ahead-ahead) where
   module _ (o : Outlook) (e : c.look_ahead-ahead.result ≡ o) where
     seen : effect_of (st at) (mem_of (tags at) (marks at) (cells at) (log at)) (page at) (ch at) ≡ outlook_said o
     seen =
-        step-ahead (st at) (tags at) (marks at) (cells at) (log at) (page at) (ch at) (fits (first told)) (paged told) (marked told) opened o (sym (ap outlook_said e) ∙ c.look_ahead-ahead.ensures.0)
+        step_ahead (st at) (tags at) (marks at) (cells at) (log at) (page at) (ch at) (fits (first told)) (paged told) (marked told) opened o (sym (ap outlook_said e) ∙ c.look_ahead-ahead.ensures.0)
 
     rests : outlook_fits o (st at) (log at) (ch at)
     rests = subst (λ (x : Outlook). outlook_fits x (st at) (log at) (ch at)) e c.look_ahead-ahead.ensures.1
@@ -100,7 +100,7 @@ refused-step-requires : tie.Need-refused_step-requires
 refused-step-requires c κs = search rules
 
 returns : tie.Need-returns-in-Refused
-returns c = let o = c.before.before.before.before.before.before.before.before in let x = c.in-Refused in refused-left (st o) (tags o) (marks o) (cells o) (log o) (page o) (ch o) (number_of x.why) c.refused_step.result (step-unfit (st o) (tags o) (marks o) (cells o) (log o) (page o) (ch o) (number_of x.why) (sym c.check_tags-fit.ensures ∙ ap outcome_said x.is)) c.refused_step.ensures.0 c.refused_step.ensures.1 (wide o)
+returns c = let o = c.before.before.before.before.before.before.before.before in let x = c.in-Refused in refused_left (st o) (tags o) (marks o) (cells o) (log o) (page o) (ch o) (number_of x.why) c.refused_step.result (step_unfit (st o) (tags o) (marks o) (cells o) (log o) (page o) (ch o) (number_of x.why) (sym c.check_tags-fit.ensures ∙ ap outcome_said x.is)) c.refused_step.ensures.0 c.refused_step.ensures.1 (wide o)
 
 enum_told : tie.Need-enum_told-1
 enum_told c = search rules
@@ -109,7 +109,7 @@ refused-step-requires-2 : tie.Need-refused_step-requires-then-page-ne4096
 refused-step-requires-2 c κs = search rules
 
 returns-2 : tie.Need-returns-then-page-ne4096
-returns-2 c = let t = c.before.before in let o = start t in refused-left (st o) (tags o) (marks o) (cells o) (log o) (page o) (ch o) 2 c.refused_step-then-page-ne4096.result (step-page (st o) (tags o) (marks o) (cells o) (log o) (page o) (ch o) (fits t) c.if-page-ne4096.true) c.refused_step-then-page-ne4096.ensures.0 c.refused_step-then-page-ne4096.ensures.1 (wide o)
+returns-2 c = let t = c.before.before in let o = start t in refused_left (st o) (tags o) (marks o) (cells o) (log o) (page o) (ch o) 2 c.refused_step-then-page-ne4096.result (step_page (st o) (tags o) (marks o) (cells o) (log o) (page o) (ch o) (fits t) c.if-page-ne4096.true) c.refused_step-then-page-ne4096.ensures.0 c.refused_step-then-page-ne4096.ensures.1 (wide o)
 
 tag-pages-requires : tie.Need-tag_pages-requires
 tag-pages-requires c κs = search rules
@@ -118,7 +118,7 @@ refused-step-requires-3 : tie.Need-refused_step-requires-then-marks-tag_pages
 refused-step-requires-3 c κs = search rules
 
 returns-3 : tie.Need-returns-then-marks-tag_pages
-returns-3 c = let e = c.before.before.before in let t = e.before in let o = start t in refused-left (st o) (tags o) (marks o) (cells o) (log o) (page o) (ch o) 2 c.refused_step-then-marks-tag_pages.result (step-marks (st o) (tags o) (marks o) (cells o) (log o) (page o) (ch o) (fits t) e.if-page-ne4096.false (λ q. c.if-marks-tag_pages.true (q ∙ sym c.tag_pages.ensures))) c.refused_step-then-marks-tag_pages.ensures.0 c.refused_step-then-marks-tag_pages.ensures.1 (wide o)
+returns-3 c = let e = c.before.before.before in let t = e.before in let o = start t in refused_left (st o) (tags o) (marks o) (cells o) (log o) (page o) (ch o) 2 c.refused_step-then-marks-tag_pages.result (step_marks (st o) (tags o) (marks o) (cells o) (log o) (page o) (ch o) (fits t) e.if-page-ne4096.false (λ q. c.if-marks-tag_pages.true (q ∙ sym c.tag_pages.ensures))) c.refused_step-then-marks-tag_pages.ensures.0 c.refused_step-then-marks-tag_pages.ensures.1 (wide o)
 
 enum-told-2 : tie.Need-enum_told-in-Open
 enum-told-2 c = search rules
@@ -127,7 +127,7 @@ refused-step-requires-4 : tie.Need-refused_step-requires-in_default-w
 refused-step-requires-4 c κs = search rules
 
 returns-4 : tie.Need-returns-in_default-w
-returns-4 c = let e = c.before.before in let t = first e in let o = start t in refused-left (st o) (tags o) (marks o) (cells o) (log o) (page o) (ch o) 12 c.refused_step-in_default-w.result (step-closed (st o) (tags o) (marks o) (cells o) (log o) (page o) (ch o) (fits t) (paged e) (marked e) c.in_default-w.in_default-w-own.keys2) c.refused_step-in_default-w.ensures.0 c.refused_step-in_default-w.ensures.1 (wide o)
+returns-4 c = let e = c.before.before in let t = first e in let o = start t in refused_left (st o) (tags o) (marks o) (cells o) (log o) (page o) (ch o) 12 c.refused_step-in_default-w.result (step_closed (st o) (tags o) (marks o) (cells o) (log o) (page o) (ch o) (fits t) (paged e) (marked e) c.in_default-w.in_default-w-own.keys2) c.refused_step-in_default-w.ensures.0 c.refused_step-in_default-w.ensures.1 (wide o)
 
 look-ahead-requires : tie.Need-look_ahead-ahead-requires
 look-ahead-requires c κs = fits c.before.before.before.before
@@ -196,7 +196,7 @@ same-length-3 : tie.Need-shape_of-log-in-Refused-ahead
 same-length-3 c = search rules
 
 returns-5 : tie.Need-returns-in-Refused-ahead
-returns-5 c = let a = c.before in let l = a.before.before.before.before in let o = at l in let why = a.in-Refused-ahead.why in refused-left (st o) (tags o) (marks o) (cells o) (log o) (page o) (ch o) (number_of why) c.refused_step-in-Refused-ahead.result (seen l (outlook.Refused why) a.in-Refused-ahead.is) c.refused_step-in-Refused-ahead.ensures.0 c.refused_step-in-Refused-ahead.ensures.1 (wide o)
+returns-5 c = let a = c.before in let l = a.before.before.before.before in let o = at l in let why = a.in-Refused-ahead.why in refused_left (st o) (tags o) (marks o) (cells o) (log o) (page o) (ch o) (number_of why) c.refused_step-in-Refused-ahead.result (seen l (outlook.Refused why) a.in-Refused-ahead.is) c.refused_step-in-Refused-ahead.ensures.0 c.refused_step-in-Refused-ahead.ensures.1 (wide o)
 
 same-length-4 : tie.Need-shape_of-tags-in-Clears
 same-length-4 c = search rules
@@ -211,7 +211,7 @@ same-length-7 : tie.Need-shape_of-log-in-Clears
 same-length-7 c = search rules
 
 returns-6 : tie.Need-returns-in-Clears
-returns-6 c = let a = c.before.before.before.before.before.before.before.before.before.before.before.before.before in let l = a.before.before.before.before in let o = at l in let b = a.in-Clears.b in let r = rests l (outlook.Clears b) a.in-Clears.is in let w = (st o).writer in let k = clear-taken w (log o) (opened l) r.1 in let wr = c.before.before.before.before.before.before.before.before.before.before.before in let tg = c.before.before.before.before.before.before in given-left (st o) (tags o) (marks o) (cells o) (log o) (page o) (ch o) (cleared b) c.taken_step.result tg.write_tag.new.tags tg.write_tag.new.marks (cells o) wr.write_clear-written.new.log (seen l (outlook.Clears b) a.in-Clears.is) c.taken_step.ensures.0 (c.taken_step.ensures.1 ∙ ap₂ (state_of (st o).n (st o).limit) (wr.write_clear-written.ensures.1.0 ∙ clear-state w (log o) k) c.one_less.ensures) tg.write_tag.ensures.0 tg.write_tag.ensures.1 refl (wr.write_clear-written.ensures.1.1 ∙ clear-bytes w (log o) k b) (wide o)
+returns-6 c = let a = c.before.before.before.before.before.before.before.before.before.before.before.before.before in let l = a.before.before.before.before in let o = at l in let b = a.in-Clears.b in let r = rests l (outlook.Clears b) a.in-Clears.is in let w = (st o).writer in let k = clear_taken w (log o) (opened l) r.1 in let wr = c.before.before.before.before.before.before.before.before.before.before.before in let tg = c.before.before.before.before.before.before in given_left (st o) (tags o) (marks o) (cells o) (log o) (page o) (ch o) (cleared b) c.taken_step.result tg.write_tag.new.tags tg.write_tag.new.marks (cells o) wr.write_clear-written.new.log (seen l (outlook.Clears b) a.in-Clears.is) c.taken_step.ensures.0 (c.taken_step.ensures.1 ∙ ap₂ (state_of (st o).n (st o).limit) (wr.write_clear-written.ensures.1.0 ∙ clear_state w (log o) k) c.one_less.ensures) tg.write_tag.ensures.0 tg.write_tag.ensures.1 refl (wr.write_clear-written.ensures.1.1 ∙ clear_bytes_lem w (log o) k b) (wide o)
 
 same-length-8 : tie.Need-shape_of-tags-in-Updates
 same-length-8 c = search rules
@@ -223,7 +223,7 @@ same-length-10 : tie.Need-shape_of-log-in-Updates
 same-length-10 c = search rules
 
 returns-7 : tie.Need-returns-in-Updates
-returns-7 c = let a = c.before.before.before.before.before in let l = a.before.before.before.before in let o = at l in let b = a.in-Updates.b in let r = rests l (outlook.Updates b) a.in-Updates.is in let w = (st o).writer in let ws = (ch o).diff.words in let k = page-taken w (log o) ws (page o) (opened l) (paged (told l)) r.2 r.1 in let wr = c.before.before.before in given-left (st o) (tags o) (marks o) (cells o) (log o) (page o) (ch o) (updated b) c.taken_step-in-Updates.result (tags o) (marks o) (cells o) wr.write_page_update-written.new.log (seen l (outlook.Updates b) a.in-Updates.is) c.taken_step-in-Updates.ensures.0 (c.taken_step-in-Updates.ensures.1 ∙ ap (λ (v : Writer). state_of (st o).n (st o).limit v (st o).occupied) (wr.write_page_update-written.ensures.1.0 ∙ page-state w (log o) ws (page o) k)) refl refl refl (wr.write_page_update-written.ensures.1.1 ∙ page-bytes w (log o) ws (page o) k (ch o).id b) (wide o)
+returns-7 c = let a = c.before.before.before.before.before in let l = a.before.before.before.before in let o = at l in let b = a.in-Updates.b in let r = rests l (outlook.Updates b) a.in-Updates.is in let w = (st o).writer in let ws = (ch o).diff.words in let k = page_taken w (log o) ws (page o) (opened l) (paged (told l)) r.2 r.1 in let wr = c.before.before.before in given_left (st o) (tags o) (marks o) (cells o) (log o) (page o) (ch o) (updated b) c.taken_step-in-Updates.result (tags o) (marks o) (cells o) wr.write_page_update-written.new.log (seen l (outlook.Updates b) a.in-Updates.is) c.taken_step-in-Updates.ensures.0 (c.taken_step-in-Updates.ensures.1 ∙ ap (λ (v : Writer). state_of (st o).n (st o).limit v (st o).occupied) (wr.write_page_update-written.ensures.1.0 ∙ page_state w (log o) ws (page o) k)) refl refl refl (wr.write_page_update-written.ensures.1.1 ∙ page_bytes w (log o) ws (page o) k (ch o).id b) (wide o)
 
 same-length-11 : tie.Need-shape_of-tags-in-Takes
 same-length-11 c = search rules
@@ -238,7 +238,7 @@ same-length-14 : tie.Need-shape_of-log-in-Takes
 same-length-14 c = search rules
 
 returns-8 : tie.Need-returns-in-Takes
-returns-8 c = let a = c.before.before.before.before.before.before.before.before.before.before.before.before.before.before.before.before.before.before.before in let l = a.before.before.before.before in let o = at l in let b = a.in-Takes.b in let r = rests l (outlook.Takes b) a.in-Takes.is in let w = (st o).writer in let ws = (ch o).diff.words in let k = page-taken w (log o) ws (page o) (opened l) (paged (told l)) r.2 r.1 in let wr = c.before.before.before.before.before.before.before.before.before.before.before.before.before.before.before.before.before in let tg = c.before.before.before.before.before.before.before.before.before.before.before in let cl = c.before.before.before.before in given-left (st o) (tags o) (marks o) (cells o) (log o) (page o) (ch o) (allocated b) c.taken_step-in-Takes.result tg.write_tag-in-Takes.new.tags tg.write_tag-in-Takes.new.marks cl.set_cell.new.cells wr.write_page_update-written-in-Takes.new.log (seen l (outlook.Takes b) a.in-Takes.is) c.taken_step-in-Takes.ensures.0 (c.taken_step-in-Takes.ensures.1 ∙ ap₂ (state_of (st o).n (st o).limit) (wr.write_page_update-written-in-Takes.ensures.1.0 ∙ page-state w (log o) ws (page o) k) c.one_more.ensures) (tg.write_tag-in-Takes.ensures.0 ∙ ap (set (tags o) b) tg.full_entry.ensures) tg.write_tag-in-Takes.ensures.1 (cl.set_cell.ensures ∙ ap (λ (p : Where). cells_at p b (cells o)) cl.where_of.ensures) (wr.write_page_update-written-in-Takes.ensures.1.1 ∙ page-bytes w (log o) ws (page o) k (ch o).id b) (wide o)
+returns-8 c = let a = c.before.before.before.before.before.before.before.before.before.before.before.before.before.before.before.before.before.before.before in let l = a.before.before.before.before in let o = at l in let b = a.in-Takes.b in let r = rests l (outlook.Takes b) a.in-Takes.is in let w = (st o).writer in let ws = (ch o).diff.words in let k = page_taken w (log o) ws (page o) (opened l) (paged (told l)) r.2 r.1 in let wr = c.before.before.before.before.before.before.before.before.before.before.before.before.before.before.before.before.before in let tg = c.before.before.before.before.before.before.before.before.before.before.before in let cl = c.before.before.before.before in given_left (st o) (tags o) (marks o) (cells o) (log o) (page o) (ch o) (allocated b) c.taken_step-in-Takes.result tg.write_tag-in-Takes.new.tags tg.write_tag-in-Takes.new.marks cl.set_cell.new.cells wr.write_page_update-written-in-Takes.new.log (seen l (outlook.Takes b) a.in-Takes.is) c.taken_step-in-Takes.ensures.0 (c.taken_step-in-Takes.ensures.1 ∙ ap₂ (state_of (st o).n (st o).limit) (wr.write_page_update-written-in-Takes.ensures.1.0 ∙ page_state w (log o) ws (page o) k) c.one_more.ensures) (tg.write_tag-in-Takes.ensures.0 ∙ ap (set (tags o) b) tg.full_entry.ensures) tg.write_tag-in-Takes.ensures.1 (cl.set_cell.ensures ∙ ap (λ (p : Where). cells_at p b (cells o)) cl.where_of.ensures) (wr.write_page_update-written-in-Takes.ensures.1.1 ∙ page_bytes w (log o) ws (page o) k (ch o).id b) (wide o)
 
 pub step_spec : {M : Type 1} → statement M
 step_spec =

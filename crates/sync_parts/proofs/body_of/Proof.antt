@@ -3,7 +3,7 @@ use mathlib.Core.Bool.{Bool}
 use mathlib.Core.Path.{sym, ap, ◌∙◌}
 use Prim.Native.Nat.{ℕ, ◌+◌, ◌*◌}
 use native.Mathlib.Omega.{arith}
-use Rattle.page_diff.proofs.SlotLaws.{slots-few}
+use Rattle.page_diff.proofs.SlotLaws.{slots_few}
 use Rattle.sync_parts.specs.Parts.{body_of}
 use borrow.Author.Rules.{rules}
 use Rattle.sync_parts.proofs.body_of.Statement.{statement}
@@ -16,10 +16,10 @@ count-requires : tie.Need-count-requires
 count-requires c κs = search rules
 
 mul-result : tie.Need-overflow_mul-result
-mul-result c = omega (arith, slots-few c.args.d.words 128, c.count.ensures)
+mul-result c = omega (arith, slots_few c.args.d.words 128, c.count.ensures)
 
 add-result : tie.Need-overflow_add-result
-add-result c = omega (arith, slots-few c.args.d.words 128, c.count.ensures)
+add-result c = omega (arith, slots_few c.args.d.words 128, c.count.ensures)
 
 returns-2 : tie.Need-returns
 returns-2 c = let args = c.args in ap (λ (k : ℕ). 64 + 32 * k) c.count.ensures ∙ sym (ap (λ (b : Bool). body_of b args.d.words) c.if-clearing.false)

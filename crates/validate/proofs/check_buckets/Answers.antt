@@ -4,11 +4,11 @@ use Rattle.answers.specs.Answers.{refused}
 use Rattle.answers.specs.Refusals.{number_of}
 use Rattle.validate.specs.Audit.{path_audit}
 use Rattle.validate.specs.InnerAudit.{paths_to}
-use Rattle.validate.proofs.Audits.{paths-none, paths-next, paths-stop}
+use Rattle.validate.proofs.Audits.{paths_none, paths_next, paths_stop}
 use Rattle.validate.proofs.check_buckets.Goals as goal
 
 pub loop-b-init : goal.loop-b-init
-loop-b-init c = (omega arith, paths-none c.args.image.now c.args.n c.args.hashes.now)
+loop-b-init c = (omega arith, paths_none c.args.image.now c.args.n c.args.hashes.now)
 
 pub returns-in-Refused : goal.returns-in-Refused
 returns-in-Refused c =
@@ -18,9 +18,9 @@ returns-in-Refused c =
     let e : path_audit a.image.now a.n (get_or a.hashes.now b 0) b ≡ refused m = sym c.in-Refused.ensures in
     let d : b + 1 + (a.end - (b + 1)) ≡ a.end = omega (arith, c.loop-b-test.true) in
     sym (ap (paths_to a.image.now a.n a.hashes.now) (sym d)
-    ∙ paths-stop a.image.now a.n a.hashes.now (b + 1) m (a.end - (b + 1)) (paths-next a.image.now a.n a.hashes.now b c.loop-b.invariant.1 ∙ e))
+    ∙ paths_stop a.image.now a.n a.hashes.now (b + 1) m (a.end - (b + 1)) (paths_next a.image.now a.n a.hashes.now b c.loop-b.invariant.1 ∙ e))
 
 pub loop-b-preserved : goal.loop-b-preserved
 loop-b-preserved c =
     let a = c.args in
-    (omega (arith, c.loop-b-test.true), paths-next a.image.now a.n a.hashes.now c.loop-b.b c.loop-b.invariant.1 ∙ sym c.in_default.ensures)
+    (omega (arith, c.loop-b-test.true), paths_next a.image.now a.n a.hashes.now c.loop-b.b c.loop-b.invariant.1 ∙ sym c.in_default.ensures)

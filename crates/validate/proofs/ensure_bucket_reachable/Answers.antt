@@ -5,9 +5,9 @@ use native.Mathlib.Nat.{add-zero}
 use Rattle.ht_file.proofs.Laws.{image_fits_facts}
 use Rattle.probe.specs.Path.{visit}
 use Rattle.probe.proofs.Visits.{visit_below}
-use Rattle.probe.proofs.Walk.{Passed, passed_none, passed-more}
+use Rattle.probe.proofs.Walk.{Passed, passed_none, passed_more}
 use Rattle.validate.specs.Audit.{stops_reach}
-use Rattle.validate.proofs.Reaches.{on_below, on_round, passes, reached-at, empty-at, never-at}
+use Rattle.validate.proofs.Reaches.{on_below, on_round, passes, reached_at, empty_at_lem, never_at}
 use Rattle.validate.proofs.ensure_bucket_reachable.Goals as goal
 
 -- the first visit
@@ -18,7 +18,7 @@ home n h = ap (λ (x : ℕ). x % n) (sym (add-zero h))
 -- one visit is passed
 on : (img : List ℕ) (n h b k c : ℕ) → 0 < n → c ≡ visit n h k → Passed (stops_reach img b) n h 0 k → (c ≡ b → ⊥) → (get_or img c 0 ≡ 0x00 → ⊥) → Passed (stops_reach img b) n h 0 (k + 1)
 on img n h b k c some here passed other used =
-    passed-more (stops_reach img b) n h 0 k passed
+    passed_more (stops_reach img b) n h 0 k passed
     (passes img n h b some (visit n h k) (λ e. other (here ∙ e)) (λ e. used (ap (λ (i : ℕ). get_or img i 0) here ∙ e)))
 
 pub loop-k-init : goal.loop-k-init
@@ -28,7 +28,7 @@ pub returns-then-bucket-b : goal.returns-then-bucket-b
 returns-then-bucket-b c =
     let a = c.args in
     let inv = c.loop-k.invariant in
-    sym (reached-at a.image.now a.n a.hash a.b (omega arith) c.loop-k.k c.loop-k-test.true inv.2 (sym inv.0 ∙ c.if-bucket-b.true))
+    sym (reached_at a.image.now a.n a.hash a.b (omega arith) c.loop-k.k c.loop-k-test.true inv.2 (sym inv.0 ∙ c.if-bucket-b.true))
 
 pub bounds-image-bucket : goal.bounds-image-bucket
 bounds-image-bucket c =
@@ -39,7 +39,7 @@ pub returns-then-image-bucket-eq-EMPTY : goal.returns-then-image-bucket-eq-EMPTY
 returns-then-image-bucket-eq-EMPTY c =
     let a = c.args in
     let inv = c.loop-k.invariant in
-    sym (empty-at a.image.now a.n a.hash a.b (omega arith) c.loop-k.k c.loop-k-test.true inv.2 (λ e. c.if-bucket-b.false (inv.0 ∙ e))
+    sym (empty_at_lem a.image.now a.n a.hash a.b (omega arith) c.loop-k.k c.loop-k-test.true inv.2 (λ e. c.if-bucket-b.false (inv.0 ∙ e))
     (ap (λ (i : ℕ). get_or a.image.now i 0) (sym inv.0) ∙ c.if-image-bucket-eq-EMPTY.true))
 
 pub loop-k-preserved-then-n-bucket : goal.loop-k-preserved-then-n-bucket
@@ -65,4 +65,4 @@ returns c =
     let a = c.args in
     let inv = c.loop-k.invariant in
     let e : c.loop-k.k ≡ a.n = omega (arith, c.loop-k-test.false, inv.1) in
-    sym (never-at a.image.now a.n a.hash a.b (image_fits_facts a.n (length a.image.now) c.requires).0 (subst (Passed (stops_reach a.image.now a.b) a.n a.hash 0) e inv.2))
+    sym (never_at a.image.now a.n a.hash a.b (image_fits_facts a.n (length a.image.now) c.requires).0 (subst (Passed (stops_reach a.image.now a.b) a.n a.hash 0) e inv.2))

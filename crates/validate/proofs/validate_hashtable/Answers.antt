@@ -2,43 +2,43 @@
 use Rattle.std.proofs.Common.{◌≡◌, sym, ap, ap₂, ◌∙◌, arith, true, List, ℕ, length, take, Float}
 use Rattle.answers.specs.Answers.{Answer, given, and_then}
 use Rattle.answers.specs.Refusals.{number_of}
-use Rattle.answers.proofs.Laws.{given-one}
+use Rattle.answers.proofs.Laws.{given_one}
 use Rattle.ht_file.specs.Places.{image_fits, start_in, tags_of, if_tags}
 use Rattle.ht_file.proofs.Laws.{image_fits_facts, tags_end, table_fits}
-use Rattle.label_search.proofs.Firsts.{first-told}
+use Rattle.label_search.proofs.Firsts.{first_told}
 use Rattle.meta_map.specs.Tags.{full, count_of, padding_empty}
 use Rattle.meta_map.proofs.Laws.{count-le}
 use Rattle.validate.specs.Audit.{audited_to, audit_of, audit_answer, rate_of}
-use Rattle.validate.proofs.Audits.{audited-refused, audited-twice, audited-passed, audit-unfit, audit-hashes, audit-padding, audit-buckets, tags-asked, tags-counted, padding_told}
+use Rattle.validate.proofs.Audits.{audited_refused, audited_twice, audited_passed, audit_unfit, audit_hashes, audit_padding, audit_buckets, tags_asked, tags_counted, padding_told}
 use Rattle.validate.proofs.validate_hashtable.Goals as goal
 
 -- what is asked of the tags, which end where bucket 0's page starts
 module _ (img : List ℕ) (n : ℕ) (hashes : List ℕ) (fits : image_fits n (length img) ≡ true) (at : ℕ) (placed : at ≡ start_in n 0) where
   asked : {A : Type 0} (f : List ℕ → Answer A) → if_tags (take at img) n (f (take at img)) ≡ f (tags_of n img)
   asked f =
-      ap (λ (k : ℕ). if_tags (take k img) n (f (take k img))) (placed ∙ tags_end n (image_fits_facts n (length img) fits).1) ∙ tags-asked n img fits (f (tags_of n img))
+      ap (λ (k : ℕ). if_tags (take k img) n (f (take k img))) (placed ∙ tags_end n (image_fits_facts n (length img) fits).1) ∙ tags_asked n img fits (f (tags_of n img))
 
   counted : (o : ℕ) → given o ≡ if_tags (take at img) n (given (count_of full (take at img) n)) → o ≡ count_of full img n
   counted o e =
-      given-one o (count_of full (tags_of n img) n) (e ∙ asked (λ (ts : List ℕ). given (count_of full ts n))) ∙ tags-counted n img fits
+      given_one o (count_of full (tags_of n img) n) (e ∙ asked (λ (ts : List ℕ). given (count_of full ts n))) ∙ tags_counted n img fits
 
   -- the padding is empty: it goes by the buckets
   by_buckets : length hashes ≡ n → given true ≡ if_tags (take at img) n (given (padding_empty (take at img) n)) → audit_answer img n hashes ≡ and_then (audited_to img n hashes n) (λ _. given (audit_of img n))
   by_buckets each e =
-      audit-buckets img n hashes fits each (sym (given-one true (padding_empty (tags_of n img) n) (e ∙ asked (λ (ts : List ℕ). given (padding_empty ts n)))))
+      audit_buckets img n hashes fits each (sym (given_one true (padding_empty (tags_of n img) n) (e ∙ asked (λ (ts : List ℕ). given (padding_empty ts n)))))
 
 pub returns-in-Refused : goal.returns-in-Refused
-returns-in-Refused c = audit-unfit c.args.image.now c.args.n c.args.hashes.now (number_of c.in-Refused.why) (sym c.in-Refused.ensures)
+returns-in-Refused c = audit_unfit c.args.image.now c.args.n c.args.hashes.now (number_of c.in-Refused.why) (sym c.in-Refused.ensures)
 
 pub returns-then-hashes-n : goal.returns-then-hashes-n
-returns-then-hashes-n c = sym (audit-hashes c.args.image.now c.args.n c.args.hashes.now (table_fits _ (sym c.in_default.ensures)) c.if-hashes-n.true)
+returns-then-hashes-n c = sym (audit_hashes c.args.image.now c.args.n c.args.hashes.now (table_fits _ (sym c.in_default.ensures)) c.if-hashes-n.true)
 
 pub returns-in_default-padding : goal.returns-in_default-padding
 returns-in_default-padding c =
     let a = c.args in
     let img = a.image.now in
     let fits = table_fits (image_fits a.n (length img)) (sym c.in_default.ensures) in
-    sym (audit-padding img a.n a.hashes.now fits c.if-hashes-n.false
+    sym (audit_padding img a.n a.hashes.now fits c.if-hashes-n.false
     (padding_told c.padding_is_empty-padding.result (padding_empty (tags_of a.n img) a.n)
     (c.padding_is_empty-padding.ensures ∙ asked img a.n a.hashes.now fits c.page_start-tags.result c.page_start-tags.ensures (λ (ts : List ℕ). given (padding_empty ts a.n)))
     c.in_default-padding.not-Holds))
@@ -47,7 +47,7 @@ pub check_buckets-checked-requires : goal.check_buckets-checked-requires
 check_buckets-checked-requires c =
     let a = c.args in
     let fits = table_fits (image_fits a.n (length a.image.now)) (sym c.in_default.ensures) in
-    let within = (first-told a.image.now a.n fits c.in-Is-found.first c.in-Is-found.ensures).within in
+    let within = (first_told a.image.now a.n fits c.in-Is-found.first c.in-Is-found.ensures).within in
     (fits, c.if-hashes-n.false, omega (arith, within))
 
 pub returns-in-Refused-checked : goal.returns-in-Refused-checked
@@ -56,7 +56,7 @@ returns-in-Refused-checked c =
     let img = a.image.now in
     let hashes = a.hashes.now in
     let fits = table_fits (image_fits a.n (length img)) (sym c.in_default.ensures) in
-    let e = audited-refused img a.n hashes c.in-Is-found.first (first-told img a.n fits c.in-Is-found.first c.in-Is-found.ensures) (number_of c.in-Refused-checked.why) (sym c.in-Refused-checked.ensures) in
+    let e = audited_refused img a.n hashes c.in-Is-found.first (first_told img a.n fits c.in-Is-found.first c.in-Is-found.ensures) (number_of c.in-Refused-checked.why) (sym c.in-Refused-checked.ensures) in
     sym (by_buckets img a.n hashes fits c.page_start-tags.result c.page_start-tags.ensures c.if-hashes-n.false c.in-Holds.ensures
     ∙ ap (λ (x : Answer (Unit {0})). and_then x (λ _. given (audit_of img a.n))) e)
 
@@ -66,7 +66,7 @@ returns-then-first-n c =
     let img = a.image.now in
     let hashes = a.hashes.now in
     let fits = table_fits (image_fits a.n (length img)) (sym c.in_default.ensures) in
-    let e = audited-twice img a.n hashes c.in-Is-found.first (first-told img a.n fits c.in-Is-found.first c.in-Is-found.ensures) c.if-first-n.true (sym c.in_default-checked.ensures) in
+    let e = audited_twice img a.n hashes c.in-Is-found.first (first_told img a.n fits c.in-Is-found.first c.in-Is-found.ensures) c.if-first-n.true (sym c.in_default-checked.ensures) in
     sym (by_buckets img a.n hashes fits c.page_start-tags.result c.page_start-tags.ensures c.if-hashes-n.false c.in-Holds.ensures
     ∙ ap (λ (x : Answer (Unit {0})). and_then x (λ _. given (audit_of img a.n))) e)
 
@@ -84,7 +84,7 @@ returns c =
     let img = a.image.now in
     let hashes = a.hashes.now in
     let fits = table_fits (image_fits a.n (length img)) (sym c.in_default.ensures) in
-    let e = audited-passed img a.n hashes c.in-Is-found.first (first-told img a.n fits c.in-Is-found.first c.in-Is-found.ensures) c.if-first-n.false (sym c.in_default-checked.ensures) in
+    let e = audited_passed img a.n hashes c.in-Is-found.first (first_told img a.n fits c.in-Is-found.first c.in-Is-found.ensures) c.if-first-n.false (sym c.in_default-checked.ensures) in
     let o = counted img a.n hashes fits c.page_start-tags.result c.page_start-tags.ensures c.in-Is.occupied c.in-Is.ensures in
     ap₂ (λ (x : ℕ) (r : Float). given (record { capacity = a.n; occupied = x; rate = r })) o (c.occupancy_rate-rate.ensures ∙ ap (λ (x : ℕ). rate_of x a.n) o)
     ∙ sym (by_buckets img a.n hashes fits c.page_start-tags.result c.page_start-tags.ensures c.if-hashes-n.false c.in-Holds.ensures

@@ -13,7 +13,7 @@ use Rattle.wal_read.specs.Head.{head_said, head_of}
 use Rattle.wal_read.proofs.ReadLaws.{head_clear, head_update, head_end, head_stop}
 use Rattle.wal_list.specs.Lines.{ascii, decimal, entry_line, end_line, refused_line}
 use Rattle.wal_list.specs.Shown.{Shown, on, over, shown_at, text_of, said_of, line_said}
-use Rattle.wal_list.proofs.ShownLaws.{shown-first, shown-next, shown_update, only_end, short-answer, short-after, with_room, filled-last, filled_more}
+use Rattle.wal_list.proofs.ShownLaws.{shown_first, shown_next, shown_update, only_end, short_answer, short_after, with_room, filled_last, filled_more}
 use borrow.Author.Rules.{rules}
 use Rattle.wal_list.proofs.line_at.Statement.{statement}
 use Rattle.wal_list.proofs.line_at.Tie as tie
@@ -22,7 +22,7 @@ returns : tie.Need-returns-then-line-lt-LINE_SIZE
 returns c =
     let args = c.args in
     let s : Shown = shown_at args.log.now args.at in
-    (short-answer args.line.now s c.if-line-lt-LINE_SIZE.true, short-after args.line.now s c.if-line-lt-LINE_SIZE.true)
+    (short_answer args.line.now s c.if-line-lt-LINE_SIZE.true, short_after args.line.now s c.if-line-lt-LINE_SIZE.true)
 
 first-line-requires : tie.Need-first_line-requires
 first-line-requires c κs = search rules
@@ -36,7 +36,7 @@ returns-2 c =
     let args = first.args in
     let l = args.line.now in
     let s : Shown = shown_at args.log.now args.at in
-    let same = sym (shown-first args.log.now args.at first.if-at-eq0.true) in
+    let same = sym (shown_first args.log.now args.at first.if-at-eq0.true) in
     with_room l first.first_line.new.line s (line_said first.first_line.result) first.if-line-lt-LINE_SIZE.false
     (first.first_line.ensures.0 ∙ ap (λ (x : Shown). given (said_of x)) same, first.first_line.ensures.1 ∙ ap (λ (x : Shown). put l 0 (text_of x)) same)
 
@@ -82,7 +82,7 @@ returns-3 c =
     let said = sym (ap head_said told.in-Refused.is) ∙ seen found in
     let here : stands found ≡ stopped number = head_stop (stands found) (number_of told.in-Refused.why) said ∙ sym (ap stopped put.number_of.ensures) in
     with_room args.line.now put.put_line-len.new.line s (given (over put.put_line-len.result)) found.if-line-lt-LINE_SIZE.false
-    (filled-last args.line.now put.put_line-len.new.line s (refused_line args.at number) put.put_line-len.result put.put_line-len.ensures (shown-next args.log.now args.at (stopped number) found.if-at-eq0.false here))
+    (filled_last args.line.now put.put_line-len.new.line s (refused_line args.at number) put.put_line-len.result put.put_line-len.ensures (shown_next args.log.now args.at (stopped number) found.if-at-eq0.false here))
 
 enum-known-head-2 : tie.Need-enum_known-head-in-Clear-head-2
 enum-known-head-2 c = search rules
@@ -105,7 +105,7 @@ returns-4 c =
     let said = sym (ap head_said told.in-Clear.is) ∙ seen found in
     let here : stands found ≡ next (clear bucket) after = head_clear (stands found) bucket after said in
     with_room args.line.now put.put_line-len-in-Clear.new.line s (given (on put.put_line-len-in-Clear.result after)) found.if-line-lt-LINE_SIZE.false
-    (filled_more args.line.now put.put_line-len-in-Clear.new.line s (entry_line args.at (clear bucket)) put.put_line-len-in-Clear.result put.put_line-len-in-Clear.ensures after (shown-next args.log.now args.at (next (clear bucket) after) found.if-at-eq0.false here))
+    (filled_more args.line.now put.put_line-len-in-Clear.new.line s (entry_line args.at (clear bucket)) put.put_line-len-in-Clear.result put.put_line-len-in-Clear.ensures after (shown_next args.log.now args.at (next (clear bucket) after) found.if-at-eq0.false here))
 
 enum-known-head-3 : tie.Need-enum_known-head-in-Update-head-3
 enum-known-head-3 c = search rules
@@ -125,7 +125,7 @@ returns-5 c =
     let ends = only_end found.head_at_tolerant-head.result put.in_default.in_default-own.keys2 put.in_default-head.in_default-head-own.keys2 put.in_default-head-2.in_default-head-2-own.keys2 in
     let here : stands found ≡ ended = head_end (stands found) (sym (ap head_said ends) ∙ seen found) in
     with_room args.line.now put.put_end-len.new.line s (given (over put.put_end-len.result)) found.if-line-lt-LINE_SIZE.false
-    (filled-last args.line.now put.put_end-len.new.line s (end_line args.at) put.put_end-len.result put.put_end-len.ensures (shown-next args.log.now args.at ended found.if-at-eq0.false here))
+    (filled_last args.line.now put.put_end-len.new.line s (end_line args.at) put.put_end-len.result put.put_end-len.ensures (shown_next args.log.now args.at ended found.if-at-eq0.false here))
 
 put-update-requires : tie.Need-put_update-len-requires
 put-update-requires c κs = search rules

@@ -12,7 +12,7 @@ use Rattle.wal_list.specs.Shown.{shown_at, line_said}
 use Rattle.wal_list.proofs.Writing.{Written}
 use Rattle.wal_list.proofs.AllLines.{Leads}
 use Rattle.wal_list.proofs.Fits.{lines_fit}
-use Rattle.wal_list.proofs.Filling.{lines-put, lines_left, told-one, Filled, filled_start, done-few, done-short, part_room, filled-end, filled-turn}
+use Rattle.wal_list.proofs.Filling.{lines-put, lines_left, told_one, Filled, filled_start, done_few, done_short, part_room, filled_end, filled_turn}
 use Rattle.wal_list.proofs.lines_into.Statement.{statement}
 use Rattle.wal_list.proofs.lines_into.Tie as tie
 
@@ -31,7 +31,7 @@ loop-holds c = let args = c.args in filled_start args.log.now args.out.now
 -- at the head of a turn there is room for a line
 module _ (c : tie.At-loop-len invariant-loop decreases-loop) where
   short : c.loop-len.done + 80 ≤ length c.loop-len.out
-  short = let args = c.args in done-short args.log.now args.out.now c.loop-len.out c.loop-len.done c.loop-len.at c.if-out-lt-LINES_SIZE.false c.loop-len.invariant
+  short = let args = c.args in done_short args.log.now args.out.now c.loop-len.out c.loop-len.done c.loop-len.at c.if-out-lt-LINES_SIZE.false c.loop-len.invariant
 
 sub-line-at : tie.Need-slice_bounds-line_at-count invariant-loop decreases-loop
 sub-line-at c = omega (arith, short c)
@@ -74,7 +74,7 @@ all c =
     let t = c.before in
     let at-loop = turn t in
     let called = t.before.before in
-    filled-end (log t) (out₀ t) (out t) (done t) at-loop.loop-len.at at-loop.before.if-out-lt-LINES_SIZE.false at-loop.loop-len.invariant called.line_at-shown.new.line called.line_at-shown.ensures.1
+    filled_end (log t) (out₀ t) (out t) (done t) at-loop.loop-len.at at-loop.before.if-out-lt-LINES_SIZE.false at-loop.loop-len.invariant called.line_at-shown.new.line called.line_at-shown.ensures.1
     c.in-Last.len (sym (ap line_said c.in-Last.is) ∙ called.line_at-shown.ensures.0)
 
 -- a line before it
@@ -83,7 +83,7 @@ more c =
     let t = c.before.before in
     let at-loop = turn t in
     let called = t.before.before in
-    filled-turn (log t) (out₀ t) (out t) (done t) at-loop.loop-len.at at-loop.before.if-out-lt-LINES_SIZE.false at-loop.loop-len.invariant called.line_at-shown.new.line called.line_at-shown.ensures.1
+    filled_turn (log t) (out₀ t) (out t) (done t) at-loop.loop-len.at at-loop.before.if-out-lt-LINES_SIZE.false at-loop.loop-len.invariant called.line_at-shown.new.line called.line_at-shown.ensures.1
     c.in-More.len c.in-More.next (sym (ap line_said c.in-More.is) ∙ called.line_at-shown.ensures.0)
 
 -- there is a line
@@ -91,7 +91,7 @@ never : tie.In_default-shown invariant-loop decreases-loop → ⊥
 never c =
     let t = c.before.before in
     let at-loop = turn t in
-    told-one (mid_of (done t) (length (out t) - done t) (out t)) (shown_at (log t) at-loop.loop-len.at) (part_room (log t) (out₀ t) (out t) (done t) at-loop.loop-len.at at-loop.if-out-lt-LINES_SIZE.false at-loop.loop-len.invariant)
+    told_one (mid_of (done t) (length (out t) - done t) (out t)) (shown_at (log t) at-loop.loop-len.at) (part_room (log t) (out₀ t) (out t) (done t) at-loop.loop-len.at at-loop.if-out-lt-LINES_SIZE.false at-loop.loop-len.invariant)
     t.line_at-shown.result c.in_default.in_default-own.keys2 c.in_default-shown.in_default-shown-own.keys2 t.line_at-shown.ensures.0
 
 add-t16 : tie.Need-overflow_add-result invariant-loop decreases-loop
@@ -115,7 +115,7 @@ returns-3 c = absurd (never c)
 add_done : tie.Need-overflow_add-done invariant-loop decreases-loop
 add_done c =
     let t = c.before.before in
-    omega (arith, done-few (log t) (out₀ t) (after t) (done t + c.in-More.len) c.in-More.next (turn t).if-out-lt-LINES_SIZE.false (more c).0)
+    omega (arith, done_few (log t) (out₀ t) (after t) (done t + c.in-More.len) c.in-More.next (turn t).if-out-lt-LINES_SIZE.false (more c).0)
 
 loop-less : tie.Need-loop-len-smaller invariant-loop decreases-loop
 loop-less c = omega (arith, (more c).1)

@@ -1,7 +1,7 @@
 -- By the first byte, where there is one. Assumes nothing.
 use mathlib.Core.Path.{sym}
 use borrow.Author.Rules.{rules}
-use Rattle.wal_read.proofs.NextLaws.{edition_two_lem, edition-one, edition_none}
+use Rattle.wal_read.proofs.NextLaws.{edition_two_lem, edition_one_lem, edition_none}
 use Rattle.wal_read.proofs.edition_of.Statement.{statement}
 use Rattle.wal_read.proofs.edition_of.Tie as tie
 
@@ -12,7 +12,7 @@ returns : tie.Need-returns-then-log
 returns c = sym (edition_two_lem c.args.log.now c.if-log.true)
 
 returns-2 : tie.Need-returns-else-log
-returns-2 c = sym (edition-one c.args.log.now c.if-log.false)
+returns-2 c = sym (edition_one_lem c.args.log.now c.if-log.false)
 
 returns-3 : tie.Need-returns-else-log-gt0
 returns-3 c = sym (edition_none c.args.log.now c.if-log-gt0.false)

@@ -12,7 +12,7 @@ use Rattle.wal.specs.declared.AfterEnd.{AfterEnd}
 use Rattle.wal.specs.declared.Edition.{Edition}
 use Rattle.wal_read.specs.Head.{head_said}
 use Rattle.wal_read.proofs.ReadLaws.{There, head_clear, head_update, head_end, head_stop}
-use Rattle.wal_read.proofs.Answered.{bare-clear, bare-end, bare-stop, update-taken}
+use Rattle.wal_read.proofs.Answered.{bare_clear, bare_end, bare_stop, update_taken}
 use Rattle.wal_read.proofs.entry_by.Statement.{statement}
 use Rattle.wal_read.proofs.entry_by.Tie as tie
 
@@ -107,26 +107,26 @@ returns c =
     let found = c.before in
     let start = found.before.before.before in
     let said = sym (ap head_said found.in-Clear.is) ∙ found.head_by-head.ensures in
-    bare-clear start.args.at found.in-Clear.next c.bare.result (next_by start.args.rule start.args.edition start.args.log.now start.args.at) found.in-Clear.bucket (head_clear (next_by start.args.rule start.args.edition start.args.log.now start.args.at) found.in-Clear.bucket found.in-Clear.next said) c.bare.ensures
+    bare_clear start.args.at found.in-Clear.next c.bare.result (next_by start.args.rule start.args.edition start.args.log.now start.args.at) found.in-Clear.bucket (head_clear (next_by start.args.rule start.args.edition start.args.log.now start.args.at) found.in-Clear.bucket found.in-Clear.next said) c.bare.ensures
 
 returns-2 : tie.Need-returns-in-Update
 returns-2 c =
     let here = c.before.before.before.before.before.before in
-    update-taken (rule here) (ed here) (log here) (at here) (bucket here) (count here) (after here) _ (there here) here.mark_size.result (size here) refl c.block_32-id.ensures c.diff_at-read.ensures.1 (c.pack_up-packed.ensures ∙ ap (λ (t : List (List ℕ)). packed_by t (count here)) c.nodes_at.ensures) c.block_8-elided.ensures refl
+    update_taken (rule here) (ed here) (log here) (at here) (bucket here) (count here) (after here) _ (there here) here.mark_size.result (size here) refl c.block_32-id.ensures c.diff_at-read.ensures.1 (c.pack_up-packed.ensures ∙ ap (λ (t : List (List ℕ)). packed_by t (count here)) c.nodes_at.ensures) c.block_8-elided.ensures refl
 
 returns-3 : tie.Need-returns-in-End
 returns-3 c =
     let found = c.before in
     let start = found.before.before.before in
     let said = sym (ap head_said found.in-End.is) ∙ found.head_by-head.ensures in
-    bare-end start.args.at c.bare-in-End.result (next_by start.args.rule start.args.edition start.args.log.now start.args.at) (head_end (next_by start.args.rule start.args.edition start.args.log.now start.args.at) said) c.bare-in-End.ensures
+    bare_end start.args.at c.bare-in-End.result (next_by start.args.rule start.args.edition start.args.log.now start.args.at) (head_end (next_by start.args.rule start.args.edition start.args.log.now start.args.at) said) c.bare-in-End.ensures
 
 returns-4 : tie.Need-returns-in-Refused
 returns-4 c =
     let found = c.before in
     let start = found.before.before.before in
     let said = sym (ap head_said found.in-Refused.is) ∙ found.head_by-head.ensures in
-    bare-stop start.args.at c.bare-in-Refused.result (next_by start.args.rule start.args.edition start.args.log.now start.args.at) found.in-Refused.why (head_stop (next_by start.args.rule start.args.edition start.args.log.now start.args.at) (number_of found.in-Refused.why) said) c.bare-in-Refused.ensures
+    bare_stop start.args.at c.bare-in-Refused.result (next_by start.args.rule start.args.edition start.args.log.now start.args.at) found.in-Refused.why (head_stop (next_by start.args.rule start.args.edition start.args.log.now start.args.at) (number_of found.in-Refused.why) said) c.bare-in-Refused.ensures
 
 pub entry_by_spec : {M : Type 1} → statement M
 entry_by_spec =

@@ -6,7 +6,7 @@ use Rattle.wal.specs.Reader.{next_by}
 use Rattle.wal.specs.declared.Edition.{Edition}
 use Rattle.wal_read.specs.Entry.{Taken}
 use Rattle.wal_read.specs.Set.{gives_at}
-use Rattle.wal_read.proofs.Answered.{bare-stop}
+use Rattle.wal_read.proofs.Answered.{bare_stop}
 use borrow.Author.Rules.{rules}
 use Rattle.wal_read.proofs.entry_set.Statement.{statement}
 use Rattle.wal_read.proofs.entry_set.Tie as tie
@@ -36,7 +36,7 @@ returns-2 : tie.Need-returns-in-Refused
 returns-2 c =
     let found = c.before in
     let start = found.before.before in
-    bare-stop start.args.at c.bare.result (gives_at start.args.rule (number_said start.args.start) start.args.log.now start.args.at) found.in-Refused.why
+    bare_stop start.args.at c.bare.result (gives_at start.args.rule (number_said start.args.start) start.args.log.now start.args.at) found.in-Refused.why
     (ap (λ (n : Number). gives_at start.args.rule (number_said n) start.args.log.now start.args.at) found.in-Refused.is) c.bare.ensures
 
 pub entry_set_spec : {M : Type 1} → statement M

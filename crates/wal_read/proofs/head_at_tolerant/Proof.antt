@@ -12,7 +12,7 @@ use Rattle.wal.specs.Reader.{by_tag, tag_at}
 use Rattle.wal.specs.declared.Edition.{Edition}
 use Rattle.wal_read.specs.Head.{head_of}
 use Rattle.wal_read.specs.InnerEntry.{tag_said}
-use Rattle.wal_read.proofs.NextLaws.{mark_within, next-unmarked, next-tagged}
+use Rattle.wal_read.proofs.NextLaws.{mark_within, next_unmarked, next_tagged}
 use Rattle.wal_read.proofs.head_at_tolerant.Statement.{statement}
 use Rattle.wal_read.proofs.head_at_tolerant.Tie as tie
 
@@ -60,12 +60,12 @@ enum-known-found-2 c = search rules
 returns : tie.Need-returns-in-Is
 returns c =
     let k = c.before in
-    c.head_after.ensures ∙ ap (λ (m : ℕ). head_of (by_tag (tag k) (log k) (at k + m))) (size k) ∙ sym (ap head_of (next-tagged (ed k) (log k) (at k) (tag k) (found k)))
+    c.head_after.ensures ∙ ap (λ (m : ℕ). head_of (by_tag (tag k) (log k) (at k + m))) (size k) ∙ sym (ap head_of (next_tagged (ed k) (log k) (at k) (tag k) (found k)))
 
 returns-2 : tie.Need-returns-in-Refused
 returns-2 c =
     let args = c.args in
-    sym (ap head_of (next-unmarked args.edition args.log.now args.at (number_of c.in-Refused.why) (sym (sym (ap tag_said c.in-Refused.is) ∙ c.tag_at-found.ensures))))
+    sym (ap head_of (next_unmarked args.edition args.log.now args.at (number_of c.in-Refused.why) (sym (sym (ap tag_said c.in-Refused.is) ∙ c.tag_at-found.ensures))))
 
 pub head_at_tolerant_spec : {M : Type 1} → statement M
 head_at_tolerant_spec =

@@ -10,15 +10,15 @@ use Rattle.blocks.specs.Blocks.{le, block}
 use Rattle.wal.specs.Log.{mark_size}
 use Rattle.wal.specs.Reader.{edition_at}
 use Rattle.wal.proofs.Records.{mark_some, mark_small}
-use Rattle.wal_read.proofs.NextLaws.{start-pages, start-empty, start-missing, start-given}
+use Rattle.wal_read.proofs.NextLaws.{start_pages, start_empty, start_missing, start_given}
 use Rattle.wal_read.proofs.set.Statement.{statement}
 use Rattle.wal_read.proofs.set.Tie as tie
 
 returns : tie.Need-returns-then-log-ne0
-returns c = sym (start-pages c.args.log.now c.if-log-ne0.true)
+returns c = sym (start_pages c.args.log.now c.if-log-ne0.true)
 
 returns-2 : tie.Need-returns-then-log-eq0
-returns-2 c = sym (start-empty c.args.log.now c.if-log-ne0.false c.if-log-eq0.true)
+returns-2 c = sym (start_empty c.args.log.now c.if-log-ne0.false c.if-log-eq0.true)
 
 edition-of-requires : tie.Need-edition_of-requires
 edition-of-requires c κs = search rules
@@ -52,7 +52,7 @@ shared-slice-read-if3 c = let k = c.before in omega (arith, size k, pages k, som
 returns-3 : tie.Need-returns-then-log-body-ne-WAL_ENTRY_TAG_START
 returns-3 c =
     let k = c.before.before in
-    sym (start-missing (log k) (pages k) (some k) (λ e. c.if-log-body-ne-WAL_ENTRY_TAG_START.true (ap (λ (m : ℕ). get_or (log k) (m - 1) 0) (size k) ∙ e)))
+    sym (start_missing (log k) (pages k) (some k) (λ e. c.if-log-body-ne-WAL_ENTRY_TAG_START.true (ap (λ (m : ℕ). get_or (log k) (m - 1) 0) (size k) ∙ e)))
 
 read-u32-requires : tie.Need-read_u32-requires
 read-u32-requires c κs = search rules
@@ -63,7 +63,7 @@ cast-t13 c = search rules
 returns-4 : tie.Need-returns
 returns-4 c =
     let k = c.before.before.before in
-    ap given (c.read_u32.ensures ∙ ap (λ (m : ℕ). le (block 4 (log k) m)) (size k)) ∙ sym (start-given (log k) (pages k) (some k) (tag-at k 1 c.if-log-body-ne-WAL_ENTRY_TAG_START.false))
+    ap given (c.read_u32.ensures ∙ ap (λ (m : ℕ). le (block 4 (log k) m)) (size k)) ∙ sym (start_given (log k) (pages k) (some k) (tag-at k 1 c.if-log-body-ne-WAL_ENTRY_TAG_START.false))
 
 pub set_spec : {M : Type 1} → statement M
 set_spec =

@@ -3,7 +3,7 @@ use mathlib.Core.Path.{sym, ap, ◌∙◌}
 use borrow.Author.Rules.{rules}
 use Rattle.wal.specs.Reader.{tag_at}
 use Rattle.wal.specs.declared.Edition.{Edition}
-use Rattle.wal_read.proofs.NextLaws.{tag_past, tag_one, tag-bare, tag-cut, tag-two}
+use Rattle.wal_read.proofs.NextLaws.{tag_past, tag_one, tag_bare, tag_cut, tag_two}
 use Rattle.wal_read.proofs.tag_at.Statement.{statement}
 use Rattle.wal_read.proofs.tag_at.Tie as tie
 
@@ -33,7 +33,7 @@ returns-3 c =
     let told = c.before.before in
     let tested = told.before in
     let args = tested.args in
-    sym (ap (λ (e : Edition). tag_at e args.log.now args.at) told.in-Two.is ∙ tag-bare args.log.now args.at tested.if-log-at.false c.if-log-at-2.true)
+    sym (ap (λ (e : Edition). tag_at e args.log.now args.at) told.in-Two.is ∙ tag_bare args.log.now args.at tested.if-log-at.false c.if-log-at-2.true)
 
 sub-if3 : tie.Need-overflow_sub-log
 sub-if3 c = search rules
@@ -43,7 +43,7 @@ returns-4 c =
     let told = c.before.before.before in
     let tested = told.before in
     let args = tested.args in
-    sym (ap (λ (e : Edition). tag_at e args.log.now args.at) told.in-Two.is ∙ tag-cut args.log.now args.at tested.if-log-at.false c.if-log-at-2.false c.if-log-at-lt2.true)
+    sym (ap (λ (e : Edition). tag_at e args.log.now args.at) told.in-Two.is ∙ tag_cut args.log.now args.at tested.if-log-at.false c.if-log-at-2.false c.if-log-at-lt2.true)
 
 add-t4 : tie.Need-overflow_add-result
 add-t4 c = search rules
@@ -56,7 +56,7 @@ returns-5 c =
     let told = c.before.before.before.before in
     let tested = told.before in
     let args = tested.args in
-    sym (ap (λ (e : Edition). tag_at e args.log.now args.at) told.in-Two.is ∙ tag-two args.log.now args.at tested.if-log-at.false c.if-log-at-2.false c.if-log-at-lt2.false)
+    sym (ap (λ (e : Edition). tag_at e args.log.now args.at) told.in-Two.is ∙ tag_two args.log.now args.at tested.if-log-at.false c.if-log-at-2.false c.if-log-at-lt2.false)
 
 pub tag_at_spec : {M : Type 1} → statement M
 tag_at_spec =

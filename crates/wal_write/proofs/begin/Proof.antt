@@ -10,7 +10,7 @@ use Rattle.wal.specs.Log.{start_record, start_size}
 use Rattle.wal.specs.Run.{WideStart}
 use Rattle.wal.specs.Writer.{open_at, begin_answer}
 use Rattle.wal.specs.declared.Writer.{Writer}
-use Rattle.wal_write.proofs.CallLaws.{begin_short, begin_given, refused_leaves, given-leaves}
+use Rattle.wal_write.proofs.CallLaws.{begin_short, begin_given, refused_leaves, given_leaves}
 use Rattle.wal_write.proofs.begin.Statement.{statement}
 use Rattle.wal_write.proofs.begin.Tie as tie
 
@@ -22,7 +22,7 @@ begun c = open_at c.args.start.edition (start_size c.args.start.edition)
 wide : (c : tie.Start) → WideStart c.args.start
 wide c =
     let number : Fits w32 c.args.start.sync = search rules in
-    record { number = number.fits; seed-long = search rules }
+    record { number = number.fits; seed_long = search rules }
 
 kept-requires : tie.Need-kept-requires
 kept-requires c κs = search rules
@@ -51,7 +51,7 @@ returns-2 c =
     let start = past.before.before in
     let args = start.args in
     let log : List ℕ = args.log.now in
-    let left = given-leaves (begin_answer log) args.w (begun start) log 0 (start_record args.start) tt (given tt) (open_at args.start.edition c.start_size.result) called.put_start.new.log (begin_given log past.if-log-lt-PAGE_SIZE.false) refl (ap (open_at args.start.edition) c.start_size.ensures) called.put_start.ensures.0 in
+    let left = given_leaves (begin_answer log) args.w (begun start) log 0 (start_record args.start) tt (given tt) (open_at args.start.edition c.start_size.result) called.put_start.new.log (begin_given log past.if-log-lt-PAGE_SIZE.false) refl (ap (open_at args.start.edition) c.start_size.ensures) called.put_start.ensures.0 in
     (left.0, left.1, called.put_start.ensures.1)
 
 pub begin_spec : {M : Type 1} → statement M

@@ -15,8 +15,8 @@ use Rattle.wal.specs.Writer.{open_at, capacity, position, edition_of, finish_ans
 use Rattle.wal.specs.declared.Edition.{Edition}
 use Rattle.wal.specs.declared.Writer.{Writer}
 use Rattle.wal.specs.declared.Writer.TheVariants.{Finished}
-use Rattle.wal_write.proofs.Bytes.{put-marked}
-use Rattle.wal_write.proofs.CallLaws.{finish_tests, not-open, no_room, taken, refused_leaves, given-leaves}
+use Rattle.wal_write.proofs.Bytes.{put_marked}
+use Rattle.wal_write.proofs.CallLaws.{finish_tests, not_open, no_room, taken, refused_leaves, given_leaves}
 use Rattle.wal_write.proofs.finish.Statement.{statement}
 use Rattle.wal_write.proofs.finish.Tie as tie
 
@@ -70,7 +70,7 @@ returns c =
     let log : List ℕ = args.log.now in
     let w : Writer = args.w in
     refused_leaves (finish_answer log w) w (Finished (final_length w)) log (position w) (bytes w) 12 (refused 12) w
-    (finish_tests log w ∙ not-open log w true false (λ e. 0) (given (final_length w)) c.in_default.in_default-own.keys2) refl refl
+    (finish_tests log w ∙ not_open log w true false (λ e. 0) (given (final_length w)) c.in_default.in_default-own.keys2) refl refl
 
 mark-size-requires : tie.Need-mark_size-mark-requires
 mark-size-requires c κs = search rules
@@ -119,12 +119,12 @@ returns-3 c =
     let zeros : List ℕ = replicate (n - (p + m k)) 0 in
     let long : length zeros ≡ n - (p + m k) = length-replicate (n - (p + m k)) 0 in
     let same : n ≡ final_length (w k) = ap (λ (x : ℕ). (p + x + 4095) / 4096 * 4096) (sized k) ∙ sym (ap final_length (opened k)) in
-    given-leaves (finish_answer (log k) (w k)) (w k) (Finished (final_length (w k))) (log k) (position (w k)) (bytes (w k)) (final_length (w k)) (given n) (Finished n) called.put_zeros.new.s
+    given_leaves (finish_answer (log k) (w k)) (w k) (Finished (final_length (w k))) (log k) (position (w k)) (bytes (w k)) (final_length (w k)) (given n) (Finished n) called.put_zeros.new.s
     (finish_tests (log k) (w k) ∙ taken (log k) (w k) true false (λ e. 0) (given (final_length (w k))) (ed k) p (opened k) refl refl (fits past))
     (ap given same) (ap Finished same)
     (called.put_zeros.ensures
     ∙ ap (λ (l : List ℕ). put l (p + m k) zeros) marked.put_mark.ensures
-    ∙ put-marked (ed k) (m k) (sized k) (log k) p 2 zeros (omega (arith, within past))
+    ∙ put_marked (ed k) (m k) (sized k) (log k) p 2 zeros (omega (arith, within past))
     ∙ ap (λ (x : ℕ). put (log k) p (mark (ed k) 2 ++ replicate ((p + x + 4095) / 4096 * 4096 - (p + x)) 0)) (sized k)
     ∙ sym (ap (λ (v : Writer). put (log k) (position v) (bytes v)) (opened k)))
 

@@ -5,7 +5,7 @@ use mathlib.Core.List.{List}
 use native.Mathlib.Omega.{arith}
 use borrow.Author.Rules.{rules}
 use Rattle.blocks.specs.Blocks.{bytes_of, put}
-use Rattle.wal_write.proofs.Bytes.{put-clear}
+use Rattle.wal_write.proofs.Bytes.{put_clear}
 use Rattle.wal_write.proofs.put_clear.Statement.{statement}
 use Rattle.wal_write.proofs.put_clear.Tie as tie
 
@@ -33,7 +33,7 @@ returns c =
     let args = start.args in
     let m : ℕ = sized.mark_size.result in
     called.write_u64.ensures ∙ ap (λ (l : List ℕ). put l (args.at + m) (bytes_of 8 args.bucket)) marked.put_mark.ensures
-    ∙ put-clear args.edition m sized.mark_size.ensures args.log.now args.at args.bucket (omega (arith, start.requires, sized.mark_size.ensures))
+    ∙ put_clear args.edition m sized.mark_size.ensures args.log.now args.at args.bucket (omega (arith, start.requires, sized.mark_size.ensures))
 
 pub put_clear_spec : {M : Type 1} → statement M
 put_clear_spec =

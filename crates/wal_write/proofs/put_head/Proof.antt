@@ -5,7 +5,7 @@ use mathlib.Core.List.{List}
 use native.Mathlib.Omega.{arith}
 use borrow.Author.Rules.{rules}
 use Rattle.blocks.specs.Blocks.{put}
-use Rattle.wal_write.proofs.Bytes.{put-head}
+use Rattle.wal_write.proofs.Bytes.{put_head}
 use Rattle.wal_write.proofs.put_head.Statement.{statement}
 use Rattle.wal_write.proofs.put_head.Tie as tie
 
@@ -45,7 +45,7 @@ returns c =
     let m : ℕ = sized.mark_size.result in (
       last.put_16.ensures.0
           ∙ ap₂ (λ (l bs : List ℕ). put l (args.at + m + 32) bs) (first.put_32.ensures.0 ∙ ap (λ (l : List ℕ). put l (args.at + m) args.id) marked.put_mark.ensures) bytes.as_bytes.ensures
-          ∙ put-head args.edition m sized.mark_size.ensures args.log.now args.at args.id args.d.words first.put_32.ensures.1 (omega (arith, start.requires, sized.mark_size.ensures)),
+          ∙ put_head args.edition m sized.mark_size.ensures args.log.now args.at args.id args.d.words first.put_32.ensures.1 (omega (arith, start.requires, sized.mark_size.ensures)),
       first.put_32.ensures.1,
     )
 

@@ -22,7 +22,7 @@ use Rattle.wal_write.proofs.put_start.Tie as tie
 wide : (c : tie.Start) → WideStart c.args.start
 wide c =
     let number : Fits w32 c.args.start.sync = search rules in
-    record { number = number.fits; seed-long = search rules }
+    record { number = number.fits; seed_long = search rules }
 
 -- the mark and the number are put
 module _ (c : tie.After-write_u32) where

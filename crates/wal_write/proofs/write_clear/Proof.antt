@@ -14,7 +14,7 @@ use Rattle.wal.specs.Writer.{open_at, capacity, clear_answer}
 use Rattle.wal.specs.declared.Edition.{Edition}
 use Rattle.wal.specs.declared.Writer.{Writer}
 use Rattle.wal.proofs.Records.{mark_small}
-use Rattle.wal_write.proofs.CallLaws.{clear_tests, not-open, no_room, taken, record-refused, record-given}
+use Rattle.wal_write.proofs.CallLaws.{clear_tests, not_open, no_room, taken, record_refused, record_given}
 use Rattle.wal_write.proofs.write_clear.Statement.{statement}
 use Rattle.wal_write.proofs.write_clear.Tie as tie
 
@@ -64,8 +64,8 @@ returns c =
     let start = c.before.before.before in
     let args = start.args in
     let log : List ℕ = args.log.now in
-    let left = record-refused (clear_answer log args.w) log args.w clear_size (bytes args.bucket) 12 (outcome_said c.kept.result.outcome) c.kept.result.writer
-    (clear_tests log args.w ∙ not-open log args.w true false clear_size (given tt) c.in_default.in_default-own.keys2) c.kept.ensures.0 c.kept.ensures.1 in
+    let left = record_refused (clear_answer log args.w) log args.w clear_size (bytes args.bucket) 12 (outcome_said c.kept.result.outcome) c.kept.result.writer
+    (clear_tests log args.w ∙ not_open log args.w true false clear_size (given tt) c.in_default.in_default-own.keys2) c.kept.ensures.0 c.kept.ensures.1 in
     (left.0, left.1, start.ranges.bucket.fits)
 
 mark-size-requires : tie.Need-mark_size-mark-requires
@@ -85,7 +85,7 @@ returns-2 c =
     let k = c.before.before in
     let start = k.before.before.before.before in
     let args = start.args in
-    let left = record-refused (clear_answer (log k) (w k)) (log k) (w k) clear_size (bytes args.bucket) 13 (outcome_said c.kept-then-not-room_at.result.outcome) c.kept-then-not-room_at.result.writer
+    let left = record_refused (clear_answer (log k) (w k)) (log k) (w k) clear_size (bytes args.bucket) 13 (outcome_said c.kept-then-not-room_at.result.outcome) c.kept-then-not-room_at.result.writer
     (clear_tests (log k) (w k) ∙ no_room (log k) (w k) true false clear_size (given tt) (ed k) (at k) (opened k) refl refl (sym (room k) ∙ c.if-not-room_at.true)) c.kept-then-not-room_at.ensures.0 (c.kept-then-not-room_at.ensures.1 ∙ sym (opened k)) in
     (left.0, left.1, start.ranges.bucket.fits)
 
@@ -105,7 +105,7 @@ returns-3 c =
     let k = past.before in
     let start = k.before.before.before.before in
     let args = start.args in
-    let left = record-given (clear_answer (log k) (w k)) (log k) (w k) clear_size (bytes args.bucket) (ed k) (at k) (open_at (ed k) (at k + (k.mark_size-mark.result + 8))) called.put_clear.new.log (opened k)
+    let left = record_given (clear_answer (log k) (w k)) (log k) (w k) clear_size (bytes args.bucket) (ed k) (at k) (open_at (ed k) (at k + (k.mark_size-mark.result + 8))) called.put_clear.new.log (opened k)
     (clear_tests (log k) (w k) ∙ taken (log k) (w k) true false clear_size (given tt) (ed k) (at k) (opened k) refl refl (roomy past)) (ap (λ (n : ℕ). open_at (ed k) (at k + (n + 8))) (sized k)) called.put_clear.ensures in
     (left.0, left.1, start.ranges.bucket.fits)
 

@@ -22,8 +22,8 @@ use Rattle.wal.specs.declared.Writer.{Writer}
 use Rattle.wal.proofs.Records.{mark_small}
 use Rattle.wal_write.specs.Calls.{Updates}
 use Rattle.wal_write.specs.declared.Written.{Written}
-use Rattle.wal_write.proofs.Bytes.{put-update}
-use Rattle.wal_write.proofs.CallLaws.{update_tests, not-open, unfit, reserved-bit, no_room, taken, record-refused, record-given}
+use Rattle.wal_write.proofs.Bytes.{put_update}
+use Rattle.wal_write.proofs.CallLaws.{update_tests, not_open, unfit, reserved_bit, no_room, taken, record_refused, record_given}
 use Rattle.wal_write.proofs.write_lent_update.Statement.{statement}
 use Rattle.wal_write.proofs.write_lent_update.Tie as tie
 
@@ -56,15 +56,15 @@ module _ (c : tie.Start) where
       let low : Fits w64 (get_or ws 0 0) = search rules in
       let high : Fits w64 (get_or ws 1 0) = search rules in
       record {
-        change = record { id-long = search rules; two-words = search rules; low_word = low.fits; high_word = high.fits };
-        elided-long = search rules;
+        change = record { id_long = search rules; two_words = search rules; low_word = low.fits; high_word = high.fits };
+        elided_long = search rules;
         bucket = c.ranges.bucket.fits;
       }
 
   -- a refused call
   refused-call : (n : ℕ) (r : Written) → answer ≡ refused n → outcome_said r.outcome ≡ refused n → r.writer ≡ w → Updates log w c.args.id ws c.args.nodes.now held c.args.elided c.args.bucket r log
   refused-call n r e k s =
-      let left = record-refused answer log w size bytes n (outcome_said r.outcome) r.writer e k s in
+      let left = record_refused answer log w size bytes n (outcome_said r.outcome) r.writer e k s in
       (left.0, left.1, wide, λ ok. absurd (true≢false (sym ok ∙ ap accepted e)))
 
 -- an open writer
@@ -135,7 +135,7 @@ returns : tie.Need-returns-in_default
 returns c =
     let s = c.before.before.before in
     refused-call s 12 c.kept.result
-    (update_tests (log s) (w s) (ws s) (held s) ∙ not-open (log s) (w s) (eqb (held s) (count_of (ws s))) (reserved (ws s)) (size s) (given tt) c.in_default.in_default-own.keys2) c.kept.ensures.0 c.kept.ensures.1
+    (update_tests (log s) (w s) (ws s) (held s) ∙ not_open (log s) (w s) (eqb (held s) (count_of (ws s))) (reserved (ws s)) (size s) (given tt) c.in_default.in_default-own.keys2) c.kept.ensures.0 c.kept.ensures.1
 
 count-requires : tie.Need-count-requires
 count-requires c κs = search rules
@@ -166,7 +166,7 @@ returns-3 c =
     let s = start k in
     refused-call s 4 c.kept-then-is_reserved.result
     (update_tests (log s) (w s) (ws s) (held s)
-    ∙ reserved-bit (log s) (w s) (eqb (held s) (count_of (ws s))) (reserved (ws s)) (size s) (given tt) (ed k) (at k) (opened k) (fit past) (sym asked.is_reserved.ensures ∙ c.if-is_reserved.true)) c.kept-then-is_reserved.ensures.0 (c.kept-then-is_reserved.ensures.1 ∙ sym (opened k))
+    ∙ reserved_bit (log s) (w s) (eqb (held s) (count_of (ws s))) (reserved (ws s)) (size s) (given tt) (ed k) (at k) (opened k) (fit past) (sym asked.is_reserved.ensures ∙ c.if-is_reserved.true)) c.kept-then-is_reserved.ensures.0 (c.kept-then-is_reserved.ensures.1 ∙ sym (opened k))
 
 mark-size-requires : tie.Need-mark_size-mark-requires
 mark-size-requires c κs = search rules
@@ -239,13 +239,13 @@ returns-5 c =
     let s = start k in
     let ns : List (List ℕ) = take (held s) s.args.nodes.now in
     let end : List ℕ = s.args.elided ++ bytes_of 8 s.args.bucket in
-    let left = record-given (answer s) (log s) (w s) (size s) (bytes s) (ed k) (at k) (open_at (ed k) (at k + (m past + (64 + 32 * held s)))) tail.put_tail.new.log (opened k)
+    let left = record_given (answer s) (log s) (w s) (size s) (bytes s) (ed k) (at k) (open_at (ed k) (at k + (m past + (64 + 32 * held s)))) tail.put_tail.new.log (opened k)
     (update_tests (log s) (w s) (ws s) (held s)
     ∙ taken (log s) (w s) (eqb (held s) (count_of (ws s))) (reserved (ws s)) (size s) (given tt) (ed k) (at k) (opened k) (fit past.before.before.before.before.before) (plain past.before.before.before) (roomy past))
     (ap (λ (n : ℕ). open_at (ed k) (at k + (n + (64 + 32 * held s)))) (sized past.before))
     (tail.put_tail.ensures.0
     ∙ ap (λ (l : List ℕ). put l (at k + (m past + (64 + 32 * held s) - 16)) end) (nodes.put_nodes.ensures.0 ∙ ap (λ (l : List ℕ). put l (at k + m past + 48) (flat ns)) head.put_head.ensures.0)
-    ∙ put-update (ed k) (m past) (sized past.before) (log s) (at k) s.args.id (ws s) head.put_head.ensures.1 ns s.args.elided s.args.bucket (held s) nodes.put_nodes.ensures.1 tail.put_tail.ensures.1 (fits past)) in
+    ∙ put_update (ed k) (m past) (sized past.before) (log s) (at k) s.args.id (ws s) head.put_head.ensures.1 ns s.args.elided s.args.bucket (held s) nodes.put_nodes.ensures.1 tail.put_tail.ensures.1 (fits past)) in
     (left.0, left.1, wide s, λ ok. nodes.put_nodes.ensures.2)
 
 pub write_lent_update_spec : {M : Type 1} → statement M

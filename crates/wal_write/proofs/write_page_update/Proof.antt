@@ -25,8 +25,8 @@ use Rattle.wal.proofs.Records.{mark_small}
 use Rattle.wal_write.specs.Calls.{page_update_answer, page_update, UpdatesPage}
 use Rattle.wal_write.specs.declared.Written.{Written}
 use Rattle.page_diff.proofs.Nodes.{page_nodes-length, nodes_plain}
-use Rattle.wal_write.proofs.Bytes.{put-update}
-use Rattle.wal_write.proofs.CallLaws.{page_tests, not-open, unfit, reserved-bit, no_room, taken, record-refused, record-given}
+use Rattle.wal_write.proofs.Bytes.{put_update}
+use Rattle.wal_write.proofs.CallLaws.{page_tests, not_open, unfit, reserved_bit, no_room, taken, record_refused, record_given}
 use Rattle.wal_write.proofs.write_page_update.Statement.{statement}
 use Rattle.wal_write.proofs.write_page_update.Tie as tie
 
@@ -59,15 +59,15 @@ module _ (c : tie.Start) where
       let low : Fits w64 (get_or ws 0 0) = search rules in
       let high : Fits w64 (get_or ws 1 0) = search rules in
       record {
-        change = record { id-long = search rules; two-words = search rules; low_word = low.fits; high_word = high.fits };
-        elided-long = block-length 8 page 4056;
+        change = record { id_long = search rules; two_words = search rules; low_word = low.fits; high_word = high.fits };
+        elided_long = block-length 8 page 4056;
         bucket = c.ranges.bucket.fits;
       }
 
   -- a refused call
   refused-call : (n : ℕ) (r : Written) → answer ≡ refused n → outcome_said r.outcome ≡ refused n → r.writer ≡ w → UpdatesPage log w c.args.id ws page c.args.bucket r log
   refused-call n r e k s =
-      let left = record-refused answer log w size bytes n (outcome_said r.outcome) r.writer e k s in
+      let left = record_refused answer log w size bytes n (outcome_said r.outcome) r.writer e k s in
       (left.0, left.1, wide)
 
 -- an open writer
@@ -137,7 +137,7 @@ returns : tie.Need-returns-in_default
 returns c =
     let s = c.before.before.before.before in
     refused-call s 12 c.kept.result
-    (page_tests (log s) (w s) (ws s) (page s) ∙ not-open (log s) (w s) (eqb (length (page s)) 4096) (reserved (ws s)) (size s) (given tt) c.in_default.in_default-own.keys2) c.kept.ensures.0 c.kept.ensures.1
+    (page_tests (log s) (w s) (ws s) (page s) ∙ not_open (log s) (w s) (eqb (length (page s)) 4096) (reserved (ws s)) (size s) (given tt) c.in_default.in_default-own.keys2) c.kept.ensures.0 c.kept.ensures.1
 
 kept-requires-2 : tie.Need-kept-requires-then-page-ne-PAGE_SIZE
 kept-requires-2 c κs = search rules
@@ -164,7 +164,7 @@ returns-3 c =
     let s = start k in
     refused-call s 4 c.kept-then-is_reserved.result
     (page_tests (log s) (w s) (ws s) (page s)
-    ∙ reserved-bit (log s) (w s) (eqb (length (page s)) 4096) (reserved (ws s)) (size s) (given tt) (ed k) (at k) (opened k) (fit past) (sym asked.is_reserved.ensures ∙ c.if-is_reserved.true)) c.kept-then-is_reserved.ensures.0 (c.kept-then-is_reserved.ensures.1 ∙ sym (opened k))
+    ∙ reserved_bit (log s) (w s) (eqb (length (page s)) 4096) (reserved (ws s)) (size s) (given tt) (ed k) (at k) (opened k) (fit past) (sym asked.is_reserved.ensures ∙ c.if-is_reserved.true)) c.kept-then-is_reserved.ensures.0 (c.kept-then-is_reserved.ensures.1 ∙ sym (opened k))
 
 mark-size-requires : tie.Need-mark_size-mark-requires
 mark-size-requires c κs = search rules
@@ -243,7 +243,7 @@ returns-5 c =
     let n : ℕ = count_of (ws s) in
     let ns : List (List ℕ) = map (node_at (page s)) (slots (ws s)) in
     let el : List ℕ = block 8 (page s) 4056 in
-    let left = record-given (answer s) (log s) (w s) (size s) (bytes s) (ed k) (at k) (open_at (ed k) (at k + (m past + (64 + 32 * past.count.result)))) tail.put_tail.new.log (opened k)
+    let left = record_given (answer s) (log s) (w s) (size s) (bytes s) (ed k) (at k) (open_at (ed k) (at k + (m past + (64 + 32 * past.count.result)))) tail.put_tail.new.log (opened k)
     (page_tests (log s) (w s) (ws s) (page s)
     ∙ taken (log s) (w s) (eqb (length (page s)) 4096) (reserved (ws s)) (size s) (given tt) (ed k) (at k) (opened k) (fit past.before.before.before.before.before.before) (plain past.before.before.before.before) (roomy past))
     (ap₂ (λ (x y : ℕ). open_at (ed k) (at k + (x + (64 + 32 * y)))) (sized past.before) (counted past.before))
@@ -251,7 +251,7 @@ returns-5 c =
     ∙ ap (λ (y : ℕ). put nodes.put_page_nodes.new.s (at k + (m past + (64 + 32 * y) - 16)) (read.block_8.result ++ bytes_of 8 s.args.bucket)) (counted past.before)
     ∙ ap (λ (e : List ℕ). put nodes.put_page_nodes.new.s (at k + (m past + (64 + 32 * n) - 16)) (e ++ bytes_of 8 s.args.bucket)) read.block_8.ensures
     ∙ ap (λ (l : List ℕ). put l (at k + (m past + (64 + 32 * n) - 16)) (el ++ bytes_of 8 s.args.bucket)) (nodes.put_page_nodes.ensures ∙ nodes_plain head.put_head.new.log (at k + m past + 48) (ws s) (page s) (plain past.before.before.before.before) ∙ ap (λ (l : List ℕ). put l (at k + m past + 48) (flat ns)) head.put_head.ensures.0)
-    ∙ put-update (ed k) (m past) (sized past.before) (log s) (at k) s.args.id (ws s) head.put_head.ensures.1 ns el s.args.bucket n (page_nodes-length (page s) (slots (ws s))) (block-length 8 (page s) 4056) (fits past)) in
+    ∙ put_update (ed k) (m past) (sized past.before) (log s) (at k) s.args.id (ws s) head.put_head.ensures.1 ns el s.args.bucket n (page_nodes-length (page s) (slots (ws s))) (block-length 8 (page s) 4056) (fits past)) in
     (left.0, left.1, wide s)
 
 pub write_page_update_spec : {M : Type 1} → statement M
