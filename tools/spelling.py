@@ -3,10 +3,12 @@
 
 Usage, from the repository's top: python3 tools/spelling.py [--dry]
 
-A definition or a lemma that was in camel case is in snake case (`markSize`: `mark_size`). In a lemma's name a
-dash joins two names and a plain word is added with `_` (`block-short`: `block_short`, `le-bytesOf`: `le-bytes_of`).
-Types and modules, functions of src/, fields, constants, exported names and strings keep their names. It goes
-through the .antt and .rt files, the must-fail edits, and what stands in backticks in README.md and docs/.
+A definition or a lemma that was in camel case is in snake case (`markSize`: `mark_size`). In a lemma's name, and in that
+of a field or a constructor of specs/ and proofs/, a dash stays before a function's name and is else `_` (`block-short`:
+`block_short`, `le-bytesOf`: `le-bytes_of`). What would so get the name of something else that is declared has `_lem` behind
+it. Types and modules, functions of src/ and their fields, constants, exported names and strings keep their names. It goes
+through the .antt and .rt files, the must-fail edits, and what stands in backticks in README.md and docs/; a name with a
+dash that stands in a comment is left to the hand.
 """
 import collections
 import pathlib
@@ -18,9 +20,11 @@ TOKEN = re.compile(r"(?<![A-Za-z0-9_'])[A-Za-z_][A-Za-z0-9_'₀-₉]*(?:-[A-Za-z
 CODE = re.compile(r"(?<![A-Za-z0-9_'])[A-Za-z_][A-Za-z0-9_₀-₉]*(?:-[A-Za-z0-9_₀-₉]+)*(?!')")
 # the functions whose names stand as a part of a lemma's, behind a dash; any other word is added with `_`
 FUNCTIONS = set("length drop take append mod pow suc le get_or snoc replicate shr block put tabulate bytes_of flat".split())
-# what falls together with another name once it is in snake case
+# what a file takes from a library under one of our older names: it stays
 STAYS = set()
-OTHERWISE = {"bit-or": "bit_or_lem", "said-done": "said_done_lem", "logStart": "log_start_of", "at-change": "at_change_lem", "after-end": "after_end_lem", "log-two": "log_two_lem",
+# what would fall together with another name once it is in snake case, and what needs no `_lem`
+OTHERWISE = {"with-clear": "with_clear", "with-update": "with_update", "at-end": "at_end",
+             "bit-or": "bit_or_lem", "said-done": "said_done_lem", "logStart": "log_start_of", "at-change": "at_change_lem", "after-end": "after_end_lem", "log-two": "log_two_lem",
              "put-end": "put_end_lem", "put-start": "put_start_lem", "nodes-at": "nodes_at_lem", "read-entry": "read_entry_lem"}
 
 

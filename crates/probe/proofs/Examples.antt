@@ -86,7 +86,7 @@ pub said : (map probed_said (probed.Empty 1 2 ∷ probed.Tombstone 3 4 ∷ probe
     × (map allocated_said (allocated.At 1 ∷ allocated.Refused PathCrowded ∷ allocated.Refused PathClosed ∷ []) ≡ given 1 ∷ refused 10 ∷ refused 11 ∷ [])
 said = (refl, refl, refl)
 
--- a table that meets every premise of `found-after-allocation`: n=3, hash 0, tags 81 7F 00, of which bucket 1 is given;
+-- a table that meets every premise of `found_after_allocation`: n=3, hash 0, tags 81 7F 00, of which bucket 1 is given;
 -- then its image, all pages zero, in which bucket 1 alone has the tag 80
 abbrev three_tags : List ℕ
 three_tags = 0x81 ∷ 0x7F ∷ 0x00 ∷ replicate 4093 0

@@ -90,7 +90,7 @@ module _ (img : List ℕ) (n h : ℕ) (id : List ℕ) where
   data Walked : Sought → Type 0 where
     at_page : {b : ℕ} (k : ℕ) → Stopped (stops_lookup img n h id) n h 0 (2 * n) b k → HasPage img n h id b → Walked (found_at b)
     at_empty : (b k : ℕ) → Stopped (stops_lookup img n h id) n h 0 (2 * n) b k → get_or img b 0 ≡ 0x00 → Walked absent
-    at_end_lem : Passed (stops_lookup img n h id) n h 0 (2 * n) → Walked unreached
+    at_end : Passed (stops_lookup img n h id) n h 0 (2 * n) → Walked unreached
 
   walked : Walked (looking_up img n h id)
   unfolding looking_up
@@ -102,7 +102,7 @@ module _ (img : List ℕ) (n h : ℕ) (id : List ℕ) where
 
       go : (s : Stop) → first_stop (stops_lookup img n h id) 0 (path_from n h 0) ≡ s → Walked (lookup_saw img s)
       go (stop_at b k) e = told b k (stop_told (stops_lookup img n h id) n h 0 (2 * n) b k e) (is_empty (get_or img b 0)) refl
-      go nowhere e = at_end_lem (λ j l q. never_told (stops_lookup img n h id) n h 0 (2 * n) e j l (omega arith))
+      go nowhere e = at_end (λ j l q. never_told (stops_lookup img n h id) n h 0 (2 * n) e j l (omega arith))
 
   -- an answer is that of the walk, on an image that fits
   looked : (a : Sought) → lookup_answer img n h id ≡ given a → (1 ≤ n) × Walked a
@@ -154,7 +154,7 @@ module _ (img : List ℕ) (n h : ℕ) (id : List ℕ) where
   closed_right e j l = go (looked img n h id unreached e).1
     where
       go : Walked img n h id unreached → (HasPage img n h id (visit n h j) → ⊥) × (get_or img (visit n h j) 0 ≡ 0x00 → ⊥)
-      go (at_end_lem p) = let q = p j (omega arith) l in (passes_page img n h id (visit n h j) q, passes_empty img n h id (visit n h j) q)
+      go (at_end p) = let q = p j (omega arith) l in (passes_page img n h id (visit n h j) q, passes_empty img n h id (visit n h j) q)
 
   -- a page at visit k, with no empty visit before it, is found there or at an earlier visit that has it too
   pub found_by : (k : ℕ) → image_fits n (length img) ≡ true → k < 2 * n → HasPage img n h id (visit n h k) → ((j : ℕ) → j < k → get_or img (visit n h j) 0 ≡ 0x00 → ⊥)
@@ -178,7 +178,7 @@ module _ (img : List ℕ) (n h : ℕ) (id : List ℕ) where
       go (found_at b) e (at_page j s q) =
           (j, by_then b j s (dec_lt k j), subst (HasPage img n h id) s.here q, rw (fits, e) (ap (λ (x : ℕ). given (found_at x)) s.here))
       go absent e (at_empty b j s q) = absurd (no_empty j (by_then b j s (dec_lt k j)) (ap (λ (x : ℕ). get_or img x 0) (sym s.here) ∙ q) (dec_lt j k))
-      go unreached e (at_end_lem p) = absurd (passes_page img n h id (visit n h k) (p k (omega arith) l) page)
+      go unreached e (at_end p) = absurd (passes_page img n h id (visit n h k) (p k (omega arith) l) page)
 
 -- After an allocation at visit k, once a page that ends in the id stands in the bucket that was given and the tags are written, a lookup
 -- finds that bucket, or one at an earlier visit whose page ends in the same id.

@@ -37,7 +37,7 @@ use Rattle.recover.specs.declared.Expected.{Expected}
 use Rattle.recover.specs.declared.Stepped.TheVariants as S
 use Rattle.recover.specs.declared.Recovered.TheVariants as R
 
--- what replay expects: a sync number, and the seed of the store in `log-two`
+-- what replay expects: a sync number, and the seed of the store in `log_two_lem`
 abbrev under : ℕ → Expected
 under sync = record { sync = sync; seed = seed }
 
@@ -282,7 +282,7 @@ pub endings : (on_spoilt Zeros ≡ refused 27 ∷ refused 27 ∷ given stale ∷
 unfolding replay_tests step_answer start_in seed_of same_bytes check_answer all_inside updates_in read_by next_at block marked slots_below all_zero
 endings = (refl, refl, refl)
 
--- a log that `Endings.used-refused` speaks of: accepted by the tolerant call, with its end at 14 and a 1 at 15
+-- a log that `Endings.used_refused` speaks of: accepted by the tolerant call, with its end at 14 and a 1 at 15
 pub spoilt_met : let log : List ℕ = spoilt (page (a_clear 0)) 15 in (by_rule Tolerant log 7 [] ≡ given applied) × ((read_log Tolerant log).at + 1 ≤ 15) × (get_or log 15 0 ≡ 0 → ⊥)
 unfolding replay_tests start_in check_answer all_inside updates_in read_by next_at block marked slots_below
 spoilt_met = (refl, omega arith, λ e. omega arith)

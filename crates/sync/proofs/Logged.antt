@@ -19,7 +19,7 @@ use Rattle.probe.specs.Path.{allocating, allocate_answer}
 use Rattle.probe.proofs.Allocating.{answer_below}
 use Rattle.wal.specs.Log.{Entry, update_body, finished_length}
 use Rattle.wal.specs.Reader.{start_of, read_log}
-use Rattle.wal.specs.Run.{Wide as WideUpdate, Run, begun, with_clear_lem, WideStart, end_of}
+use Rattle.wal.specs.Run.{Wide as WideUpdate, Run, begun, with_clear, WideStart, end_of}
 use Rattle.wal.specs.Writer.{begin_answer, begin_log, finish_answer, finish_log}
 use Rattle.wal.specs.declared.Writer.{Writer}
 use Rattle.wal.specs.declared.Writer.TheVariants.{Fresh}
@@ -75,7 +75,7 @@ module _ (log₀ : List ℕ) (start : Start) (st : SyncState) (m : Mem) (page : 
       let a = accepted_change st m page c (cleared b) h in
       let d = after_cleared st m c (does_of st.n m.tags m.cells c) b a.2 in
       let k = clear_taken w l opened d.1 in
-      let r = with_clear_lem w l es b run (small b (does_clears st.n m.tags m.cells c b d.0) a.0) (ap accepted k) in
+      let r = with_clear w l es b run (small b (does_clears st.n m.tags m.cells c b d.0) a.0) (ap accepted k) in
       subst (λ (x : Writer). Run log₀ start x (mem_by (given (cleared b)) st m page c).log (es ++ (entry_by c page (cleared b) ∷ []))) (clear_state w l k)
       (subst (λ (x : List ℕ). Run log₀ start (clear_writer l w) x (es ++ (entry_by c page (cleared b) ∷ []))) (clear_bytes_lem w l k b) r)
   change_logged (updated b) h =

@@ -18,7 +18,7 @@ use Rattle.page_diff.specs.Diff.{count_of, reserved}
 use Rattle.wal.specs.Log.{Entry, clear, update, mark, mark_size, seed_part, seed_size, record_of, records_of, start_record, start_size, clear_size, update_size, finished_length, end_record}
 use Rattle.wal.specs.Reader.{edition_at, marks_at, start_in, start_of, seed_of, Next, next_at, wanted, Reading, stop_at, and_then, read_on, read_in, read_by, read_after_start, read_log}
 use Rattle.wal.specs.Writer.{open_at, capacity, position, edition_of, if_open, if_room, begin_answer, clear_answer, update_answer, record_log, record_writer, finish_answer, finish_log}
-use Rattle.wal.specs.Run.{WideStart, WellFormed, Run, begun, with_clear_lem, with_update_lem, end_of, log_of}
+use Rattle.wal.specs.Run.{WideStart, WellFormed, Run, begun, with_clear, with_update, end_of, log_of}
 use Rattle.wal.specs.declared.AfterEnd.{AfterEnd}
 use Rattle.wal.specs.declared.AfterEnd.TheVariants.{Zeros, Tolerant}
 use Rattle.wal.specs.declared.Edition.{Edition}
@@ -231,9 +231,9 @@ module _ (log₀ : List ℕ) (start : Start) (log : List ℕ) (es : List Entry) 
   grown : (pos : ℕ) → WideStart start → AllWellFormed es → pos ≡ end_of start es → log ≡ put log₀ 0 (start_record start ++ records_of start.edition es)
       → pos + length (record_of start.edition e) + mark_size start.edition ≤ capacity log
       → Made log₀ start (open_at start.edition (pos + length (record_of start.edition e))) (put log pos (record_of start.edition e)) (es ++ (e ∷ []))
-  grown pos wide hs at_end_lem made fits =
+  grown pos wide hs at_end made fits =
       let long : length log ≡ length log₀ = ap length made ∙ put-length log₀ 0 (start_record start ++ records_of its es) in
-      let done : length (start_record start ++ records_of its es) ≡ pos = length-append (start_record start) (records_of its es) ∙ ap (λ (n : ℕ). n + length (records_of its es)) (start-length start wide) ∙ sym at_end_lem in
+      let done : length (start_record start ++ records_of its es) ≡ pos = length-append (start_record start) (records_of its es) ∙ ap (λ (n : ℕ). n + length (records_of its es)) (start-length start wide) ∙ sym at_end in
       let count : length (records_of its (es ++ (e ∷ []))) ≡ length (records_of its es) + length (record_of its e) = ap length (records-snoc its es e) ∙ length-append (records_of its es) (record_of its e) in
       let place : pos ≡ 0 + length (start_record start ++ records_of its es) = omega arith in
       record {
@@ -301,9 +301,9 @@ run_made log₀ start (begun w wide ok) =
       same_log = ap (λ (t : Bool). cond t (put log₀ 0 (start_record start)) log₀) ok ∙ ap (put log₀ 0) (sym (append-nil (start_record start)));
       room = omega (arith, leb-true 4096 (capacity log₀) fits, start_small start.edition);
     }
-run_made log₀ start (with_clear_lem w log es b run small ok) =
+run_made log₀ start (with_clear w log es b run small ok) =
     record_step log₀ start w log es (clear b) small (clear_answer log) clear_size (λ ed. sym (clear-length ed b)) (λ ed. clear_room ed log) (run_made log₀ start run) ok
-run_made log₀ start (with_update_lem w log es id ws ns el b run h ok) =
+run_made log₀ start (with_update w log es id ws ns el b run h ok) =
     record_step log₀ start w log es (update id ws ns el b) h (λ v. update_answer log v ws (length ns)) (λ ed. update_size ed (length ns)) (λ ed. sym (update-length ed id ws ns el b h))
     (λ ed. update_room ed log ws (length ns)) (run_made log₀ start run) ok
 

@@ -45,9 +45,9 @@ pub record WideStart (start : Start) : Type 0 where
 -- accepted calls, one after the other, on a slice that held log₀: the state and the log they leave, and the entries they wrote
 pub data Run (log₀ : List ℕ) (start : Start) : Writer → List ℕ → List Entry → Type 0 where
   begun : (w : Writer) → WideStart start → accepted (begin_answer log₀) ≡ true → Run log₀ start (begin_writer log₀ w start.edition) (begin_log log₀ start) []
-  with_clear_lem : (w : Writer) (log : List ℕ) (es : List Entry) (b : ℕ) → Run log₀ start w log es → b < 2 ^ 64 → accepted (clear_answer log w) ≡ true
+  with_clear : (w : Writer) (log : List ℕ) (es : List Entry) (b : ℕ) → Run log₀ start w log es → b < 2 ^ 64 → accepted (clear_answer log w) ≡ true
       → Run log₀ start (record_writer (clear_answer log w) w (clear_size (edition_of w))) (record_log (clear_answer log w) log w (record_of (edition_of w) (clear b))) (es ++ (clear b ∷ []))
-  with_update_lem : (w : Writer) (log : List ℕ) (es : List Entry) (id ws : List ℕ) (ns : List (List ℕ)) (elided : List ℕ) (b : ℕ)
+  with_update : (w : Writer) (log : List ℕ) (es : List Entry) (id ws : List ℕ) (ns : List (List ℕ)) (elided : List ℕ) (b : ℕ)
       → Run log₀ start w log es → Handed id ws ns elided b → accepted (update_answer log w ws (length ns)) ≡ true
       → Run log₀ start (record_writer (update_answer log w ws (length ns)) w (update_size (edition_of w) (length ns)))
       (record_log (update_answer log w ws (length ns)) log w (record_of (edition_of w) (update id ws ns elided b)))

@@ -22,7 +22,7 @@ use Rattle.wal.specs.declared.Edition.TheVariants.{One}
 use Rattle.wal.proofs.EditionOne.{old_reader_refuses}
 use Rattle.wal.proofs.Endings.{next_agrees, next_differs}
 use Rattle.wal_read.specs.Entry.{Kind, ends, refuses, what_of, what_said, next_of, Taken}
-use Rattle.wal_read.specs.Set.{first_at, gives_by, gives_at, SetOn, as_tolerant, Gives, Reads, Over, at_end_lem, at_refusal, Calls, none, call}
+use Rattle.wal_read.specs.Set.{first_at, gives_by, gives_at, SetOn, as_tolerant, Gives, Reads, Over, at_end, at_refusal, Calls, none, call}
 use Rattle.wal_read.specs.declared.What.{What}
 use Rattle.wal_read.specs.declared.What.TheVariants as what
 use Rattle.wal_read.specs.declared.WalEntry.{WalEntry}
@@ -88,7 +88,7 @@ module _ (r : WalBlobReader) (e : WalEntry) (after : WalBlobReader) (read : Read
       kept = stays (gives_at r.rule (number_said r.start) r.log.now r.at) r.at e.next (what_said e.what) here.what_is here.next_is
 
       go : (w : What) → Over w → e.what ≡ w → e.next ≡ r.at
-      go w at_end_lem h = kept.0 (ap what_said h)
+      go w at_end h = kept.0 (ap what_said h)
       go w (at_refusal why) h = kept.1 (number_of why) (ap what_said h)
 
   -- so the next call answers the same, and leaves it so

@@ -52,7 +52,7 @@ pub record Reads (r : WalBlobReader) (e : WalEntry) (after : WalBlobReader) : Ty
 
 -- an answer that ends the reading
 pub data Over : What → Type 0 where
-  at_end_lem : Over what.End
+  at_end : Over what.End
   at_refusal : (why : Refusal) → Over (what.Refused why)
 
 -- calls one after the other on one reader, with what each answers

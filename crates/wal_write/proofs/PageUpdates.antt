@@ -17,7 +17,7 @@ use Rattle.page_diff.specs.Diff.{slots, count_of, reserved}
 use Rattle.page_diff.specs.Pack.{node_at, table_of}
 use Rattle.wal.specs.Log.{Entry, update, record_of, update_size}
 use Rattle.wal.specs.Writer.{edition_of, update_answer, record_log, record_writer}
-use Rattle.wal.specs.Run.{Wide, Rows, Handed, Run, with_update_lem}
+use Rattle.wal.specs.Run.{Wide, Rows, Handed, Run, with_update}
 use Rattle.wal.specs.declared.Edition.{Edition}
 use Rattle.wal.specs.declared.Start.{Start}
 use Rattle.wal.specs.declared.Writer.{Writer}
@@ -59,7 +59,7 @@ run_sized : (log₀ : List ℕ) (start : Start) (w : Writer) (log : List ℕ) (e
     → Run log₀ start (record_writer a w (update_size (edition_of w) n)) (record_log a log w (record_of (edition_of w) (update id ws ns elided b))) (es ++ (update id ws ns elided b ∷ []))
 run_sized log₀ start w log es id ws ns elided b n a run h long e ok =
     subst₂ (λ (k : ℕ) (x : Answer (Unit {0})). accepted x ≡ true → Run log₀ start (record_writer x w (update_size (edition_of w) k)) (record_log x log w (record_of (edition_of w) (update id ws ns elided b))) (es ++ (update id ws ns elided b ∷ [])))
-    long (ap (update_answer log w ws) long ∙ sym e) (with_update_lem w log es id ws ns elided b run h) ok
+    long (ap (update_answer log w ws) long ∙ sym e) (with_update w log es id ws ns elided b run h) ok
 
 -- ---- by one lent a table: as many nodes as it takes are there, whatever stands past them
 taken-length : (ns : List (List ℕ)) (n : ℕ) → Rows ns n → length (take n ns) ≡ n

@@ -8,7 +8,7 @@ use lib.ListN.{take}
 use Rattle.answers.specs.Answers.{given, accepted, outcome_said, number_said}
 use Rattle.wal.specs.Log.{Entry, clear, update, finished_length}
 use Rattle.wal.specs.Reader.{edition_at, start_of, seed_of, read_log}
-use Rattle.wal.specs.Run.{Run, begun, with_clear_lem, end_of, log_of}
+use Rattle.wal.specs.Run.{Run, begun, with_clear, end_of, log_of}
 use Rattle.wal.specs.declared.AfterEnd.{AfterEnd}
 use Rattle.wal.specs.declared.Edition.TheVariants.{Two}
 use Rattle.wal.specs.declared.Start.{Start}
@@ -31,7 +31,7 @@ module _ (log₀ : List ℕ) (start : Start) (w : Writer) (log : List ℕ) (es :
   module _ (r : Written) (out : List ℕ) where
     pub after_clear : (b : ℕ) → Clears log w b r out → Taken r → Run log₀ start r.writer out (es ++ (clear b ∷ []))
     after_clear b p ok =
-        subst₂ (λ (v : Writer) (l : List ℕ). Run log₀ start v l (es ++ (clear b ∷ []))) (sym p.1.0) (sym p.1.1) (with_clear_lem w log es b run p.2 (ap accepted (sym p.0) ∙ ok))
+        subst₂ (λ (v : Writer) (l : List ℕ). Run log₀ start v l (es ++ (clear b ∷ []))) (sym p.1.0) (sym p.1.1) (with_clear w log es b run p.2 (ap accepted (sym p.0) ∙ ok))
 
     pub after_update : (id ws : List ℕ) (nodes : List (List ℕ)) (held : ℕ) (elided : List ℕ) (b : ℕ) → Updates log w id ws nodes held elided b r out → Taken r
         → Run log₀ start r.writer out (es ++ (update id ws (take held nodes) elided b ∷ []))

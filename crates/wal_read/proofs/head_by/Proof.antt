@@ -66,18 +66,18 @@ module _ (c : tie.After-mark_size) where
   abbrev rule : AfterEnd
   rule = c.args.rule
 
-  at_end_lem : next_at ed log at ≡ ended
-  at_end_lem = head_end (next_at ed log at) (sym (ap head_said c.in-End.is) ∙ c.head_at_tolerant-head.ensures)
+  at_end : next_at ed log at ≡ ended
+  at_end = head_end (next_at ed log at) (sym (ap head_said c.in-End.is) ∙ c.head_at_tolerant-head.ensures)
 
   size : c.mark_size.result ≡ mark_size ed
   size = c.mark_size.ensures
 
   -- by whether what follows is wanted
   by_end : (t : Bool) → wanted rule log (at + c.mark_size.result) ≡ t → head_of (on_end t ended) ≡ head_of (on_end (wanted rule log (at + mark_size ed)) (next_at ed log at))
-  by_end t e = ap₂ (λ (b : Bool) (x : Next). head_of (on_end b x)) (sym e ∙ ap (λ (m : ℕ). wanted rule log (at + m)) size) (sym at_end_lem)
+  by_end t e = ap₂ (λ (b : Bool) (x : Next). head_of (on_end b x)) (sym e ∙ ap (λ (m : ℕ). wanted rule log (at + m)) size) (sym at_end)
 
 add-wanted : tie.Need-overflow_add-at
-add-wanted c = omega (arith, size c, end_within (ed c) (log c) (at c) (at_end_lem c))
+add-wanted c = omega (arith, size c, end_within (ed c) (log c) (at c) (at_end c))
 
 wanted-requires : tie.Need-wanted-requires
 wanted-requires c κs = search rules
