@@ -1,5 +1,5 @@
 -- 01, 'Page' and 'Diff': the marked nodes of a page, packed and put back. Assumes nothing.
-use Rattle.std.specs.Prelude.{◌≡◌, cond, List, [], ◌++◌, map, ℕ, ◌+◌, ◌-◌, ◌*◌, ◌/◌, ◌%◌, eqb, length, get_or, replicate}
+use Rattle.std.specs.Prelude.{◌≡◌, cond, List, [], ◌++◌, map, ℕ, ◌-◌, ◌*◌, ◌/◌, ◌%◌, eqb, length, get_or, replicate}
 use Rattle.answers.specs.Answers.{Answer, given, refused, accepted, outcome_said}
 use Rattle.answers.specs.declared.Outcome.{Outcome}
 use Rattle.blocks.specs.Blocks.{block, put, flat, tabulate}

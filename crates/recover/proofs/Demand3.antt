@@ -1,10 +1,10 @@
 -- Demand 3: replay from the start, from the table or from whatever stops left of it, ends in one and the same image: each named place has
 -- the last value that the log gives it, each other byte is the table's. Assumes nothing.
 use mathlib.Core.Path.{◌≡◌, refl, sym, ap, ap₂, ◌∙◌, subst}
-use mathlib.Core.Logic.{◌⊎◌, ⊎_elim}
+use mathlib.Core.Logic.{⊎_elim}
 use mathlib.Core.Bool.{Bool, true, false, cond, ◌||◌, true≢false, or-false}
 use mathlib.Core.List.{List, [], ◌∷◌, ◌++◌}
-use Prim.Native.Nat.{ℕ, zero, suc, ◌+◌, ◌<◌}
+use Prim.Native.Nat.{ℕ, zero, suc, ◌<◌}
 use lib.Dec.{eqb}
 use lib.ListN.{length, get_or, take}
 use Rattle.blocks.proofs.Laws.{tabulate-length, tabulate-get_or, tabulate_is}

@@ -20,7 +20,6 @@ use Rattle.blocks.proofs.Laws.{put_in, put_left, put_right, put-length, tabulate
 use Rattle.ht_file.specs.Places.{image_fits, image_length, page_start, if_table}
 use Rattle.ht_file.proofs.Laws.{table_unfit}
 use Rattle.meta_map.specs.Tags.{full_tag}
-use Rattle.page_diff.specs.Diff.{marked}
 use Rattle.wal.specs.Log.{Entry, clear, update}
 use Rattle.wal.specs.Reader.{Next, next, ended, stopped, next_by}
 use Rattle.wal_read.specs.Head.{head_of, head_said}

@@ -5,10 +5,10 @@ use mathlib.Core.Path.{◌≡◌, refl, sym, ap, ap₂, ◌∙◌}
 use mathlib.Core.Logic.{◌⊎◌, inl, inr, ⊎_elim}
 use mathlib.Core.Bool.{Bool, true, false, cond, ◌&&◌, true≢false}
 use mathlib.Core.List.{List}
-use Prim.Native.Nat.{ℕ, ◌<◌, ◌^◌}
+use Prim.Native.Nat.{ℕ, ◌<◌}
 use native.Mathlib.Omega.{arith}
 use lib.Dec.{ltb, eqb}
-use lib.ListN.{length, get_or, set}
+use lib.ListN.{length, get_or}
 use lib.Seq.{get_or-set_same}
 use borrow.Author.Tests.{ltb-true, eqb-true, eqb-false, eq-eqb, lt-ltb, ne_eqb}
 use Rattle.answers.specs.Answers.{Answer, given, refused}
@@ -25,7 +25,7 @@ use Rattle.wal.specs.declared.Edition.{Edition}
 use Rattle.wal.specs.declared.Writer.{Writer}
 use Rattle.wal.specs.declared.Writer.TheVariants.{Fresh, Open, Finished}
 use Rattle.sync_parts.specs.Parts.{Named, bucket, none, named_by, tag_fits}
-use Rattle.sync.specs.Change.{where_of, Mem, Does, clears, updates, allocates, does_with, by_named, does_of, Effect, cleared, updated, allocated, after_does, effect_of, mem_by, state_by, page_number, taken_said, StepPromise}
+use Rattle.sync.specs.Change.{where_of, Mem, Does, updates, allocates, does_with, by_named, does_of, Effect, cleared, updated, allocated, after_does, effect_of, mem_by, state_by, page_number, taken_said, StepPromise}
 use Rattle.sync.specs.declared.Change.{Change}
 use Rattle.sync.specs.declared.SyncState.{SyncState}
 use Rattle.sync.specs.declared.StepAnswer.{StepAnswer}

@@ -1,7 +1,7 @@
 -- 01, 'Writer': "Statements on finished logs are for one slice that nobody else writes from begin to finish, each call given the state
 -- last answered." Such a run, and the log that it makes. Assumes nothing.
 use Rattle.std.specs.Prelude.{◌≡◌, true, false, List, [], ◌∷◌, ◌++◌, ℕ, ◌+◌, ◌<◌, ◌^◌, length, get_or}
-use Rattle.answers.specs.Answers.{accepted, given}
+use Rattle.answers.specs.Answers.{accepted}
 use Rattle.page_diff.specs.Diff.{count_of, reserved}
 use Rattle.wal.specs.Log.{Entry, clear, update, record_of, start_record, start_size, records_of, clear_size, update_size, end_record}
 use Rattle.wal.specs.Writer.{edition_of, begin_answer, begin_log, begin_writer, clear_answer, update_answer, record_log, record_writer}

@@ -1,5 +1,5 @@
 -- At end the end, in words; every other entry is that of the call that wants zeros after end. Assumes nothing.
-use mathlib.Core.Path.{◌≡◌, refl, sym, ap, ◌∙◌, subst}
+use mathlib.Core.Path.{◌≡◌, sym, ap, ◌∙◌, subst}
 use mathlib.Core.Logic.{◌⊎◌, ⊎_elim}
 use mathlib.Core.List.{List, [], ◌∷◌}
 use Prim.Native.Nat.{ℕ}
@@ -12,7 +12,6 @@ use Rattle.wal.specs.declared.AfterEnd.TheVariants.{Zeros, Tolerant}
 use Rattle.wal.specs.declared.Edition.{Edition}
 use Rattle.wal.proofs.Endings.{next_differs}
 use Rattle.wal_read.specs.Head.{head_of, head_said}
-use Rattle.wal_read.specs.declared.Head.{Head}
 use Rattle.wal_read.specs.declared.Head.TheVariants as head
 use Rattle.wal_read.specs.contracts.Head as HeadT
 use Rattle.wal_read.proofs.Answered.{head_one}

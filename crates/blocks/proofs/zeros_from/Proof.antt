@@ -2,12 +2,10 @@
 use mathlib.Core.Path.{◌≡◌, refl, sym, ap, ◌∙◌}
 use mathlib.Core.Bool.{Bool, ◌&&◌}
 use mathlib.Core.List.{List}
-use mathlib.Core.Logic.{⊎_elim}
-use Prim.Native.Nat.{ℕ, ◌+◌, ◌-◌, ◌≤◌, ◌<◌}
+use Prim.Native.Nat.{ℕ, ◌-◌, ◌≤◌, ◌<◌}
 use native.Mathlib.Omega.{arith}
 use lib.ListN.{length, drop}
 use borrow.Author.Rules.{rules}
-use borrow.Author.Tests.{not-true, not-false}
 use Rattle.blocks.specs.Blocks.{all_zero}
 use Rattle.blocks.proofs.Zeros.{zeros_none}
 use Rattle.blocks.proofs.zeros_from.Statement.{statement}

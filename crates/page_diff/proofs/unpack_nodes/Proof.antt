@@ -1,8 +1,7 @@
 -- At the head of the loop the nodes of the slots that are done are put; it ends when all are. Assumes nothing.
 use Rattle.page_diff.proofs.PackLaws.{put_up_to, put_none, put_turn, put_all}
 use Rattle.page_diff.proofs.Walk.{Walk, walk_start, walk_on, walk_slot, walk_step, walk_end, plain_count}
-use Rattle.page_diff.specs.Diff.{slots, count_of}
-use Rattle.blocks.specs.Blocks.{put}
+use Rattle.page_diff.specs.Diff.{count_of}
 use lib.ListN.{length, get_or}
 use native.Mathlib.Omega.{arith}
 use Prim.Native.Nat.{ℕ, ◌-◌, ◌<◌}

@@ -8,7 +8,7 @@ use lib.ListN.{length, get_or, set, take, drop, length-set}
 use borrow.Rule.Slice.PartMut.{put_mid, mid_len}
 use borrow.Author.Rules.{rules}
 use Rattle.answers.specs.Answers.{given}
-use Rattle.blocks.specs.Blocks.{block, put}
+use Rattle.blocks.specs.Blocks.{block}
 use Rattle.blocks.proofs.Laws.{tabulate-length}
 use Rattle.ht_file.specs.Places.{image_fits, image_length, page_start}
 use Rattle.ht_file.proofs.Laws.{image_fits_facts, start_is}

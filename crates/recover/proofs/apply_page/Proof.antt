@@ -7,7 +7,7 @@ use Rattle.wal.specs.Reader.{diff_at, nodes_from}
 use Rattle.page_diff.specs.Pack.{unpacked_byte}
 use Rattle.page_diff.specs.Diff.{count_of, reserved, read_words}
 use Rattle.blocks.proofs.Laws.{tabulate-length}
-use Rattle.blocks.specs.Blocks.{block, put, tabulate}
+use Rattle.blocks.specs.Blocks.{block, tabulate}
 use borrow.Rule.Slice.PartMut.{put_mid}
 use lib.ListN.{length, length-append}
 use native.Mathlib.Omega.{arith}

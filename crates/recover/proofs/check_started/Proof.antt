@@ -1,6 +1,5 @@
 -- Each test answers as the definition does. Assumes nothing.
 use mathlib.Core.Path.{sym, ap, ◌∙◌}
-use borrow.Author.Tests.{not-true, not-false}
 use Rattle.answers.specs.Answers.{outcome_said}
 use Rattle.answers.specs.Refusals.{number_of}
 use Rattle.recover.proofs.Replays.{other_store, other_sync, bad_entry, all_good}

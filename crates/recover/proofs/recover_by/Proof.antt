@@ -3,9 +3,9 @@ use mathlib.Core.Path.{◌≡◌, sym, ap, ◌∙◌}
 use mathlib.Core.List.{List}
 use Prim.Native.Nat.{ℕ}
 use lib.ListN.{length}
-use Rattle.answers.specs.Answers.{Answer, given}
+use Rattle.answers.specs.Answers.{Answer}
 use Rattle.recover.specs.Places.{replayed}
-use Rattle.recover.specs.Replay.{Did, applied, replay_answer, image_by, steps_of, recovered_said}
+use Rattle.recover.specs.Replay.{Did, replay_answer, image_by, steps_of, recovered_said}
 use Rattle.recover.proofs.Replays.{applied_told, others_leave}
 use Rattle.recover.proofs.Endings.{check_tolerant}
 use borrow.Author.Rules.{rules}

@@ -3,7 +3,6 @@
 use Rattle.recover.proofs.Runs.{Running, run_start, run_long, after_clear, after_update, at_the_end}
 use Rattle.recover.specs.Replay.{stepped_said, step_answer, step_image}
 use Rattle.ht_file.specs.Places.{image_fits}
-use Rattle.answers.specs.Answers.{given}
 use lib.ListN.{length, get_or}
 use borrow.Author.Rules.{rules}
 use native.Mathlib.Omega.{arith}

@@ -6,7 +6,7 @@ use Rattle.recover.proofs.Pages.{nodes_at_lem}
 use Rattle.wal.specs.Reader.{nodes_from}
 use Rattle.page_diff.proofs.PackLaws.{put_up_to, put_none, put_turn, put_all}
 use Rattle.page_diff.proofs.Walk.{Walk, walk_start, walk_on, walk_slot, walk_step, walk_end, plain_count}
-use Rattle.page_diff.specs.Diff.{slots, count_of}
+use Rattle.page_diff.specs.Diff.{count_of}
 use Rattle.blocks.specs.Blocks.{put}
 use lib.ListN.{length, get_or}
 use native.Mathlib.Omega.{arith}

@@ -1,6 +1,5 @@
 -- Each change moves the walk on by one; at the end what the start, the changes and the end promise makes the whole. Assumes nothing.
-use Rattle.std.proofs.Common.{◌≡◌, ◌∙◌, sym, length, ℕ, ◌+◌, ◌<◌, ◌≤◌, get_or, arith, below_more}
-use Rattle.std.proofs.lemmas.List.{get_or_read}
+use Rattle.std.proofs.Common.{◌∙◌, sym, ℕ, get_or, arith, below_more}
 use Rattle.sync.specs.Change.{mem_of, Wide}
 use Rattle.sync.specs.Sync.{run_said}
 use Rattle.sync.proofs.SyncLaws.{whole}

@@ -1,7 +1,7 @@
 -- The head tells what stands there, and the line is the one of that. Assumes nothing.
 use mathlib.Core.Path.{◌≡◌, sym, ap, ◌∙◌}
 use mathlib.Core.List.{◌++◌}
-use Prim.Native.Nat.{ℕ, ◌+◌}
+use Prim.Native.Nat.{ℕ}
 use Rattle.answers.specs.Answers.{given}
 use Rattle.answers.specs.Refusals.{number_of}
 use Rattle.blocks.specs.Blocks.{put}

@@ -7,7 +7,7 @@ use native.Mathlib.Omega.{arith}
 use lib.Dec.{leb}
 use lib.ListN.{length, replicate, length-replicate}
 use borrow.Author.Rules.{rules}
-use borrow.Author.Tests.{leb-true, not-true, not-false}
+use borrow.Author.Tests.{leb-true}
 use Rattle.answers.specs.Answers.{given, refused}
 use Rattle.blocks.specs.Blocks.{put}
 use Rattle.wal.specs.Log.{mark, mark_size, finished_length, end_record}

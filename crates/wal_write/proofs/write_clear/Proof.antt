@@ -7,7 +7,7 @@ use native.Mathlib.Omega.{arith}
 use lib.Dec.{leb}
 use lib.ListN.{length}
 use borrow.Author.Rules.{rules}
-use borrow.Author.Tests.{leb-true, not-true, not-false}
+use borrow.Author.Tests.{leb-true}
 use Rattle.answers.specs.Answers.{given, outcome_said}
 use Rattle.wal.specs.Log.{clear, mark_size, record_of, clear_size}
 use Rattle.wal.specs.Writer.{open_at, capacity, clear_answer}

@@ -9,7 +9,7 @@ use lib.ListN.{length, get_or}
 use mir.Syntax.{w64}
 use mir.Val.{Fits}
 use borrow.Author.Rules.{rules}
-use borrow.Author.Tests.{leb-true, eq-eqb, ne_eqb, not-true, not-false}
+use borrow.Author.Tests.{leb-true, eq-eqb, ne_eqb}
 use Rattle.answers.specs.Answers.{Answer, given, refused, outcome_said}
 use Rattle.blocks.specs.Blocks.{bytes_of, block, put, flat}
 use Rattle.blocks.proofs.Laws.{block-length}
