@@ -1,20 +1,15 @@
--- An answer is determined by what it says: each of the shared enums has one value for each answer of 01. So where a promise says
--- `..Said r ≡ d`, two answers that it allows for one input are equal. Assumes nothing.
+-- An answer is determined by what it says: a result has one value for each answer of 01. So where a promise says
+-- `answer_of r ≡ d`, two answers that it allows for one input are equal. Assumes nothing.
 use mathlib.Core.Path.{◌≡◌, refl, sym, ap, ◌∙◌}
 use mathlib.Core.Bool.{cond}
 use Prim.Native.Nat.{ℕ}
 use native.Mathlib.Omega.{arith}
 use lib.Dec.{eqb}
+use Rattle.std.specs.Prelude.{Result, Ok, Err}
 use Rattle.answers.specs.Refusals.{number_of}
-use Rattle.answers.specs.Answers.{Answer, given, refused, outcome_said, number_said, truth_said}
+use Rattle.answers.specs.Answers.{Answer, given, refused, answer_of}
 use Rattle.answers.specs.declared.Refusal.{Refusal}
 use Rattle.answers.specs.declared.Refusal.TheVariants.{TableUnfit, LengthUnfit, SlotUnfit, DiffReserved, LogNotPages, LogCut, NoStart, TagUnknown, BucketOutside, PathCrowded, PathClosed, WriterNotOpen, NoRoom, BucketUnfit, MarkerLength, MarkerMagic, MarkerOrder, NothingPending, WouldShrink, PaddingUsed, LabelTwice, TagWrong, EmptyFirst, NotReached, OtherStore, AfterEndUsed}
-use Rattle.answers.specs.declared.Outcome.{Outcome}
-use Rattle.answers.specs.declared.Number.{Number}
-use Rattle.answers.specs.declared.Truth.{Truth}
-use Rattle.answers.specs.declared.Outcome.TheVariants as outcome
-use Rattle.answers.specs.declared.Number.TheVariants as num
-use Rattle.answers.specs.declared.Truth.TheVariants as truth
 
 -- the refusal of a number
 abbrev named : ℕ → Refusal
@@ -89,25 +84,9 @@ module _ {A : Type 0} where
   pub given_one : (a b : A) → given a ≡ given b → a ≡ b
   given_one a b e = cc
 
-pub outcome_one : (a b : Outcome) → outcome_said a ≡ outcome_said b → a ≡ b
-outcome_one outcome.Done outcome.Done e = refl
-outcome_one outcome.Done (outcome.Refused s) e = absurd (given_refused tt (number_of s) e)
-outcome_one (outcome.Refused r) outcome.Done e = absurd (given_refused tt (number_of r) (sym e))
-outcome_one (outcome.Refused r) (outcome.Refused s) e = ap outcome.Refused (refusal_one r s (refused_one (number_of r) (number_of s) e))
-
-pub number_one : (a b : Number) → number_said a ≡ number_said b → a ≡ b
-number_one (num.Is x) (num.Is y) e = ap num.Is (given_one x y e)
-number_one (num.Is x) (num.Refused s) e = absurd (given_refused x (number_of s) e)
-number_one (num.Refused r) (num.Is y) e = absurd (given_refused y (number_of r) (sym e))
-number_one (num.Refused r) (num.Refused s) e = ap num.Refused (refusal_one r s (refused_one (number_of r) (number_of s) e))
-
-pub truth_one : (a b : Truth) → truth_said a ≡ truth_said b → a ≡ b
-truth_one truth.Holds truth.Holds e = refl
-truth_one truth.Holds truth.Fails e = let z : ◌≡◌ {A = ℕ} 0 1 = cc in absurd (omega arith)
-truth_one truth.Holds (truth.Refused s) e = let z : ◌≡◌ {A = ℕ} 0 1 = cc in absurd (omega arith)
-truth_one truth.Fails truth.Holds e = let z : ◌≡◌ {A = ℕ} 0 1 = cc in absurd (omega arith)
-truth_one truth.Fails truth.Fails e = refl
-truth_one truth.Fails (truth.Refused s) e = let z : ◌≡◌ {A = ℕ} 0 1 = cc in absurd (omega arith)
-truth_one (truth.Refused r) truth.Holds e = let z : ◌≡◌ {A = ℕ} 0 1 = cc in absurd (omega arith)
-truth_one (truth.Refused r) truth.Fails e = let z : ◌≡◌ {A = ℕ} 0 1 = cc in absurd (omega arith)
-truth_one (truth.Refused r) (truth.Refused s) e = ap truth.Refused (refusal_one r s (refused_one (number_of r) (number_of s) e))
+-- two results that say the same are the same
+pub answer_one : {A : Type 0} (a b : Result A Refusal) → answer_of a ≡ answer_of b → a ≡ b
+answer_one (Ok x) (Ok y) e = ap Ok (given_one x y e)
+answer_one (Ok x) (Err s) e = absurd (given_refused x (number_of s) e)
+answer_one (Err r) (Ok y) e = absurd (given_refused y (number_of r) (sym e))
+answer_one (Err r) (Err s) e = ap Err (refusal_one r s (refused_one (number_of r) (number_of s) e))

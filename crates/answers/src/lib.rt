@@ -1,12 +1,12 @@
-// What a call answers: the refusals of document 01 by name, and the three shapes of answer that
-// several rooms share. docs/ANSWERS.md has a line for a person on each.
+// Why a call did not do what was asked: the refusals of document 01 by name. A call answers a `Result` with
+// what it was asked for, or one of these. docs/ANSWERS.md has a line for a person on each.
 #![tactic(auto)]
 
 ghost use Rattle.std.specs.Prelude.{◌≡◌};
 ghost use Rattle.answers.specs.Refusals.{number_of};
 
 // Why a call did not do what was asked. Each has document 01's number, by `number_of`.
-#[derive(Clone, Copy)]
+#[derive(Clone, Copy, Debug, PartialEq, Eq, Drop)]
 pub enum Refusal {
     TableUnfit,
     LengthUnfit,
@@ -34,28 +34,6 @@ pub enum Refusal {
     NotReached,
     OtherStore,
     AfterEndUsed,
-}
-
-// A call that has nothing to say but that it is done.
-#[derive(Clone, Copy)]
-pub enum Outcome {
-    Done,
-    Refused(Refusal),
-}
-
-// A call that answers a number.
-#[derive(Clone, Copy)]
-pub enum Number {
-    Is(u64),
-    Refused(Refusal),
-}
-
-// A call that answers whether something holds.
-#[derive(Clone, Copy)]
-pub enum Truth {
-    Holds,
-    Fails,
-    Refused(Refusal),
 }
 
 // Document 01's number of a refusal.

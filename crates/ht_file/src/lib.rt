@@ -3,10 +3,10 @@
 #![tactic(auto)]
 
 ghost use Rattle.std.specs.Prelude.{◌≡◌, ◌&&◌};
-ghost use Rattle.answers.specs.Answers.{given, outcome_said, number_said};
+ghost use Rattle.answers.specs.Answers.{given, answer_of};
 ghost use Rattle.ht_file.specs.Places.{count_allowed, within_limit, tag_pages, image_length, start_in, tags_fit, image_fits, if_table, if_count, page_of};
 
-use answers::{Number, Outcome, Refusal};
+use answers::Refusal;
 
 pub const PAGE_SIZE: usize = 4096;
 
@@ -51,93 +51,84 @@ pub fn page_start(n: usize, bucket: usize) -> usize
 }
 
 // Whether a table may have n buckets; if not, the refusal.
-pub fn check_count(n: usize) -> Outcome
-    ensures { outcome_said result ≡ if_count n (given tt) }
+pub fn check_count(n: usize) -> Result<(), Refusal>
+    ensures { answer_of result ≡ if_count n (given tt) }
 {
     if count_allowed(n) {
-        return Outcome::Done;
+        return Ok(());
     }
-    Outcome::Refused(Refusal::TableUnfit)
+    Err(Refusal::TableUnfit)
 }
 
 // The same of two counts.
-pub fn check_counts(a: usize, b: usize) -> Outcome
-    ensures { outcome_said result ≡ if_table (count_allowed a && count_allowed b) (given tt) }
+pub fn check_counts(a: usize, b: usize) -> Result<(), Refusal>
+    ensures { answer_of result ≡ if_table (count_allowed a && count_allowed b) (given tt) }
 {
     if count_allowed(a) {
         return check_count(b);
     }
-    Outcome::Refused(Refusal::TableUnfit)
+    Err(Refusal::TableUnfit)
 }
 
 // Whether none of three counts is above the limit; if one is, the refusal.
-pub fn check_limits(a: u64, b: u64, c: u64) -> Outcome
-    ensures { outcome_said result ≡ if_table (within_limit a && within_limit b && within_limit c) (given tt) }
+pub fn check_limits(a: u64, b: u64, c: u64) -> Result<(), Refusal>
+    ensures { answer_of result ≡ if_table (within_limit a && within_limit b && within_limit c) (given tt) }
 {
     if a <= MAX_BUCKETS as u64 {
         if b <= MAX_BUCKETS as u64 {
             if c <= MAX_BUCKETS as u64 {
-                return Outcome::Done;
+                return Ok(());
             }
         }
     }
-    Outcome::Refused(Refusal::TableUnfit)
+    Err(Refusal::TableUnfit)
 }
 
 // Whether tags of this length belong to a table of n buckets; if not, the refusal.
-pub fn check_tags(n: usize, len: usize) -> Outcome
-    ensures { outcome_said result ≡ if_table (tags_fit n len) (given tt) }
+pub fn check_tags(n: usize, len: usize) -> Result<(), Refusal>
+    ensures { answer_of result ≡ if_table (tags_fit n len) (given tt) }
 {
     if len == page_start(n, 0) {
         return check_count(n);
     }
-    Outcome::Refused(Refusal::TableUnfit)
+    Err(Refusal::TableUnfit)
 }
 
 // Whether an image of this length belongs to a table of n buckets; if not, the refusal.
-pub fn check_image(n: usize, len: usize) -> Outcome
-    ensures { outcome_said result ≡ if_table (image_fits n len) (given tt) }
+pub fn check_image(n: usize, len: usize) -> Result<(), Refusal>
+    ensures { answer_of result ≡ if_table (image_fits n len) (given tt) }
 {
     if len == page_start(n, n) {
         return check_count(n);
     }
-    Outcome::Refused(Refusal::TableUnfit)
+    Err(Refusal::TableUnfit)
 }
 
 // How many tag pages stand before the data pages.
-pub fn num_meta_byte_pages(n: usize) -> Number
-    ensures { number_said result ≡ if_count n (given (tag_pages n)) }
+pub fn num_meta_byte_pages(n: usize) -> Result<u64, Refusal>
+    ensures { answer_of result ≡ if_count n (given (tag_pages n)) }
 {
-    let fit = check_count(n);
-    if let Outcome::Refused(why) = fit {
-        return Number::Refused(why);
-    }
-    Number::Is(tag_pages(n) as u64)
+    check_count(n)?;
+    Ok(tag_pages(n) as u64)
 }
 
 // How long the image of n buckets is.
-pub fn expected_file_len(n: usize) -> Number
-    ensures { number_said result ≡ if_count n (given (image_length n)) }
+pub fn expected_file_len(n: usize) -> Result<u64, Refusal>
+    ensures { answer_of result ≡ if_count n (given (image_length n)) }
 {
-    let fit = check_count(n);
-    if let Outcome::Refused(why) = fit {
-        return Number::Refused(why);
-    }
-    Number::Is(page_start(n, n) as u64)
+    check_count(n)?;
+    Ok(page_start(n, n) as u64)
 }
 
 // The page number of a bucket.
-pub fn data_page_index(n: usize, bucket: u64) -> Number
-    ensures { number_said result ≡ page_of n bucket }
+pub fn data_page_index(n: usize, bucket: u64) -> Result<u64, Refusal>
+    ensures { answer_of result ≡ page_of n bucket }
 {
-    let fit = check_count(n);
-    if let Outcome::Refused(why) = fit {
-        return Number::Refused(why);
-    }
+    check_count(n)?;
     if bucket < n as u64 {
-        return Number::Is(tag_pages(n) as u64 + bucket);
+        return Ok(tag_pages(n) as u64 + bucket);
     }
-    Number::Refused(Refusal::BucketOutside)
+    Err(Refusal::BucketOutside)
 }
 
 // The page number of a tag page: the tag pages come first.

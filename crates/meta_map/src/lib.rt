@@ -3,11 +3,11 @@
 #![tactic(auto)]
 
 ghost use Rattle.std.specs.Prelude.{◌≡◌, not, ◌+◌, ◌/◌, ◌≤◌, length, eqb};
-ghost use Rattle.answers.specs.Answers.{outcome_said, number_said, truth_said, given};
+ghost use Rattle.answers.specs.Answers.{answer_of, given};
 ghost use Rattle.ht_file.specs.Places.{if_tags};
 ghost use Rattle.meta_map.specs.Tags.{empty, tombstone, full, kind_of, is_kind, is_full, full_tag, count_of, padding_empty, write_answer, tag_written};
 
-use answers::{Number, Outcome, Refusal, Truth};
+use answers::Refusal;
 
 pub const EMPTY: u8 = 0x00;
 
@@ -54,33 +54,30 @@ pub fn is_full(tag: u8) -> bool
 }
 
 // Writes the tag of a bucket that takes a page with this hash; no other tag changes.
-pub fn set_full(tags: &mut [u8], n: usize, bucket: u64, hash: u64) -> Outcome
-    ensures { (outcome_said result ≡ write_answer tags.old n bucket) × (tags.new ≡ tag_written tags.old n bucket (full_tag hash)) }
+pub fn set_full(tags: &mut [u8], n: usize, bucket: u64, hash: u64) -> Result<(), Refusal>
+    ensures { (answer_of result ≡ write_answer tags.old n bucket) × (tags.new ≡ tag_written tags.old n bucket (full_tag hash)) }
 {
     set_tag(tags, n, bucket, full_entry(hash))
 }
 
 // Writes the tag of a bucket whose page is cleared; no other tag changes.
-pub fn set_tombstone(tags: &mut [u8], n: usize, bucket: u64) -> Outcome
-    ensures { (outcome_said result ≡ write_answer tags.old n bucket) × (tags.new ≡ tag_written tags.old n bucket 0x7F) }
+pub fn set_tombstone(tags: &mut [u8], n: usize, bucket: u64) -> Result<(), Refusal>
+    ensures { (answer_of result ≡ write_answer tags.old n bucket) × (tags.new ≡ tag_written tags.old n bucket 0x7F) }
 {
     set_tag(tags, n, bucket, TOMBSTONE)
 }
 
 // One tag written, or refused: 1 for the table, 9 for the bucket.
-fn set_tag(tags: &mut [u8], n: usize, bucket: u64, tag: u8) -> Outcome
-    ensures { (outcome_said result ≡ write_answer tags.old n bucket) × (tags.new ≡ tag_written tags.old n bucket tag) }
+fn set_tag(tags: &mut [u8], n: usize, bucket: u64, tag: u8) -> Result<(), Refusal>
+    ensures { (answer_of result ≡ write_answer tags.old n bucket) × (tags.new ≡ tag_written tags.old n bucket tag) }
 {
-    let fit = ht_file::check_tags(n, tags.len());
-    if let Outcome::Refused(why) = fit {
-        return Outcome::Refused(why);
-    }
+    ht_file::check_tags(n, tags.len())?;
     if bucket < n as u64 {
         let b = bucket as usize;
         tags[b] = tag;
-        return Outcome::Done;
+        return Ok(());
     }
-    Outcome::Refused(Refusal::BucketOutside)
+    Err(Refusal::BucketOutside)
 }
 
 // How many of the tags from `from` to `to` are full: at most 255, in a byte, so that many are counted at
@@ -101,13 +98,10 @@ fn full_between(tags: &[u8], from: usize, to: usize) -> u8
 }
 
 // How many of the n tags are full.
-pub fn full_count(tags: &[u8], n: usize) -> Number
-    ensures { number_said result ≡ if_tags tags.now n (given (count_of full tags.now n)) }
+pub fn full_count(tags: &[u8], n: usize) -> Result<u64, Refusal>
+    ensures { answer_of result ≡ if_tags tags.now n (given (count_of full tags.now n)) }
 {
-    let fit = ht_file::check_tags(n, tags.len());
-    if let Outcome::Refused(why) = fit {
-        return Number::Refused(why);
-    }
+    ht_file::check_tags(n, tags.len())?;
     let mut count: u32 = 0;
     let mut i = 0;
     while i < n {
@@ -118,21 +112,15 @@ pub fn full_count(tags: &[u8], n: usize) -> Number
         count += full_between(tags, i, end) as u32;
         i = end;
     }
-    Number::Is(count as u64)
+    Ok(count as u64)
 }
 
 // Whether all bytes after the n tags are zero.
-pub fn padding_is_empty(tags: &[u8], n: usize) -> Truth
-    ensures { truth_said result ≡ if_tags tags.now n (given (padding_empty tags.now n)) }
+pub fn padding_is_empty(tags: &[u8], n: usize) -> Result<bool, Refusal>
+    ensures { answer_of result ≡ if_tags tags.now n (given (padding_empty tags.now n)) }
 {
-    let fit = ht_file::check_tags(n, tags.len());
-    if let Outcome::Refused(why) = fit {
-        return Truth::Refused(why);
-    }
-    if blocks::zeros_from(tags, n) {
-        return Truth::Holds;
-    }
-    Truth::Fails
+    ht_file::check_tags(n, tags.len())?;
+    Ok(blocks::zeros_from(tags, n))
 }
 
 // The tag page that a bucket's tag stands in.
