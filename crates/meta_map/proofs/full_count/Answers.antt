@@ -8,7 +8,7 @@ use Rattle.meta_map.proofs.full_count.Goals as goal
 pub loop-i-init : goal.loop-i-init
 unfolding count_of
 loop-i-init c =
-    let f = tags_fit_facts c.args.n (length c.args.tags.now) (table_fits _ (sym c.in_default.ensures)) in
+    let f = tags_fit_facts c.args.n (length c.args.tags.now) (table_fits _ (sym c.in_ok-check_tags.ensures)) in
     (omega arith, omega arith, f.1, refl)
 
 pub overflow_add-count : goal.overflow_add-count
