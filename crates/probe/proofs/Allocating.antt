@@ -14,9 +14,8 @@ use Rattle.answers.specs.Answers.{Answer, given, refused, and_then}
 use Rattle.ht_file.specs.Places.{tags_fit}
 use Rattle.ht_file.proofs.Laws.{tags_fit_facts}
 use Rattle.meta_map.specs.Tags.{one}
-use Rattle.probe.specs.declared.Limit.{Limit}
-use Rattle.probe.specs.declared.Limit.TheVariants as limits
-use Rattle.probe.specs.Path.{visit, visits, path_from, hits, Stop, stop_at, nowhere, is_free, is_hit, stops_probe, allows, no_bucket_by, free_at, free_stop, no_bucket, allocation_saw, allocating, allocate_answer}
+use Rattle.std.specs.Prelude.{None, Some}
+use Rattle.probe.specs.Path.{Limit, visit, visits, path_from, hits, Stop, stop_at, nowhere, is_free, is_hit, stops_probe, allows, no_bucket_by, free_at, free_stop, no_bucket, allocation_saw, allocating, allocate_answer}
 use Rattle.probe.proofs.Visits.{visit_below, hits_next, hits_mono}
 use Rattle.probe.proofs.Walk.{Passed, Stopped, stop_told}
 
@@ -39,18 +38,18 @@ hits_passed ts n h k (suc m) a =
 
 -- no hit is allowed by every limit
 pub allows_none : (limit : Limit) → allows limit 0 ≡ true
-allows_none (limits.Hits most) = le-leb 0 most (omega arith)
-allows_none limits.Unlimited = refl
+allows_none (Some most) = le-leb 0 most (omega arith)
+allows_none None = refl
 
 -- more hits are allowed only where fewer are
 pub allows_fewer : (limit : Limit) (a b : ℕ) → a ≤ b → allows limit a ≡ false → allows limit b ≡ false
-allows_fewer (limits.Hits most) a b l e = lt-leb b most (omega (arith, leb-false a most e))
-allows_fewer limits.Unlimited a b l e = e
+allows_fewer (Some most) a b l e = lt-leb b most (omega (arith, leb-false a most e))
+allows_fewer None a b l e = e
 
 -- where a limit is passed there is a hit
 pub crowded_number : (limit : Limit) (a b : ℕ) → allows limit a ≡ false → 0 < b → no_bucket_by limit b ≡ 10
-crowded_number (limits.Hits most) a b e l = rw (lt-ltb 0 b l)
-crowded_number limits.Unlimited a b e l = absurd (true≢false e)
+crowded_number (Some most) a b e l = rw (lt-ltb 0 b l)
+crowded_number None a b e l = absurd (true≢false e)
 
 -- a bucket that is given: the first free visit of the path, with few hits before it
 pub record Given (limit : Limit) (ts : List ℕ) (n h b k : ℕ) : Type 0 where
@@ -158,9 +157,9 @@ refused_numbers limit ts n h m e = either limit (hits ts h (path_from n h 0)) (r
     by_hits false q = inr q
 
     either : (l : Limit) (k : ℕ) → m ≡ no_bucket_by l k → (m ≡ 10) ⊎ (m ≡ 11)
-    either (limits.Hits most) k q = by_hits (ltb 0 k) q
-    either limits.Unlimited k q = inr q
+    either (Some most) k q = by_hits (ltb 0 k) q
+    either None k q = inr q
 
 -- without a limit 10 does not occur
-pub unlimited_number : (ts : List ℕ) (n h m : ℕ) → allocating limits.Unlimited ts n h ≡ refused m → m ≡ 11
-unlimited_number ts n h m e = refused_told limits.Unlimited ts n h m e
+pub unlimited_number : (ts : List ℕ) (n h m : ℕ) → allocating None ts n h ≡ refused m → m ≡ 11
+unlimited_number ts n h m e = refused_told None ts n h m e

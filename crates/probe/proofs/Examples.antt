@@ -6,14 +6,12 @@ use mathlib.Core.List.{List, [], ◌∷◌, ◌++◌, map}
 use Prim.Native.Nat.{ℕ, zero, suc, ◌^◌, ◌<◌}
 use native.Mathlib.Omega.{arith}
 use lib.ListN.{get_or, replicate}
-use Rattle.answers.specs.Answers.{Answer, given, refused}
+use Rattle.std.specs.Prelude.{None, Some, Ok, Err}
+use Rattle.answers.specs.Answers.{Answer, given, refused, answer_of}
 use Rattle.answers.specs.declared.Refusal.TheVariants.{TableUnfit, PathCrowded, PathClosed}
-use Rattle.probe.specs.declared.Limit.TheVariants as limits
-use Rattle.probe.specs.declared.Limit.{Limit}
-use Rattle.probe.specs.Path.{hit_limit, allows, allocating, probing, looking_up, empty_at, tombstone_at, hit_at, closed, page_end, probe_answer, allocate_answer, allocated_tags, lookup_answer, found_at, absent, unreached, probed_said, found_said, allocated_said}
+use Rattle.probe.specs.Path.{Limit, hit_limit, allows, allocating, probing, looking_up, empty_at, tombstone_at, hit_at, closed, page_end, probe_answer, allocate_answer, allocated_tags, lookup_answer, found_at, absent, unreached, probed_said, found_said}
 use Rattle.probe.specs.declared.Probed.TheVariants as probed
 use Rattle.probe.specs.declared.Found.TheVariants as found
-use Rattle.probe.specs.declared.Allocated.TheVariants as allocated
 use Rattle.probe.proofs.Promises.{HasPage, found_after_allocation}
 
 -- a page of tags that begins with these
@@ -47,15 +45,15 @@ abbrev allocate3 : Limit → ℕ → ℕ → ℕ → Answer ℕ
 allocate3 limit a b c = allocate_answer limit (tags3 a b c) 3 (2 ^ 57)
 
 pub allocations : (allocate3 hit_limit 0x81 0x81 0x00 ∷ allocate3 hit_limit 0x7F 0x81 0x81 ∷ allocate3 hit_limit 0x80 0x00 0x81 ∷ allocate3 hit_limit 0x80 0x00 0x01 ∷ [])
-    ∷ (allocate3 (limits.Hits 1) 0x00 0x00 0x81 ∷ allocate3 (limits.Hits 0) 0x00 0x00 0x81 ∷ allocate_answer hit_limit (tags3 0x00 0x00 0x00) 0 0 ∷ [])
-    ∷ (allocate3 limits.Unlimited 0x00 0x00 0x81 ∷ allocate3 limits.Unlimited 0x80 0x00 0x81 ∷ allocate3 limits.Unlimited 0x80 0x00 0x01 ∷ []) ∷ []
+    ∷ (allocate3 (Some 1) 0x00 0x00 0x81 ∷ allocate3 (Some 0) 0x00 0x00 0x81 ∷ allocate_answer hit_limit (tags3 0x00 0x00 0x00) 0 0 ∷ [])
+    ∷ (allocate3 None 0x00 0x00 0x81 ∷ allocate3 None 0x80 0x00 0x81 ∷ allocate3 None 0x80 0x00 0x01 ∷ []) ∷ []
     ≡ (given 2 ∷ given 0 ∷ refused 10 ∷ refused 11 ∷ []) ∷ (given 0 ∷ refused 10 ∷ refused 1 ∷ [])
     ∷ (given 0 ∷ refused 11 ∷ refused 11 ∷ []) ∷ []
 unfolding allocating
 allocations = refl
 
 -- 01's limit: 9,998 hits are let through, and one more is not
-pub limit_of_01 : map (allows hit_limit) (0 ∷ 9998 ∷ 9999 ∷ []) ∷ map (allows limits.Unlimited) (0 ∷ 9999 ∷ []) ∷ [] ≡ (true ∷ true ∷ false ∷ []) ∷ (true ∷ true ∷ []) ∷ []
+pub limit_of_01 : map (allows hit_limit) (0 ∷ 9998 ∷ 9999 ∷ []) ∷ map (allows None) (0 ∷ 9999 ∷ []) ∷ [] ≡ (true ∷ true ∷ false ∷ []) ∷ (true ∷ true ∷ []) ∷ []
 limit_of_01 = refl
 
 -- the tags afterwards
@@ -80,10 +78,10 @@ unfolding looking_up
 lookups = refl
 
 -- each case of the code's answers
-pub said : (map probed_said (probed.Empty 1 2 ∷ probed.Tombstone 3 4 ∷ probed.PossibleHit 5 6 ∷ probed.Closed ∷ probed.Refused TableUnfit ∷ [])
+pub said : (map probed_said (Ok (probed.Empty 1 2) ∷ Ok (probed.Tombstone 3 4) ∷ Ok (probed.PossibleHit 5 6) ∷ Ok probed.Closed ∷ Err TableUnfit ∷ [])
     ≡ given (empty_at 1 2) ∷ given (tombstone_at 3 4) ∷ given (hit_at 5 6) ∷ given closed ∷ refused 1 ∷ [])
-    × (map found_said (found.At 1 ∷ found.Absent ∷ found.Closed ∷ found.Refused TableUnfit ∷ []) ≡ given (found_at 1) ∷ given absent ∷ given unreached ∷ refused 1 ∷ [])
-    × (map allocated_said (allocated.At 1 ∷ allocated.Refused PathCrowded ∷ allocated.Refused PathClosed ∷ []) ≡ given 1 ∷ refused 10 ∷ refused 11 ∷ [])
+    × (map found_said (Ok (found.At 1) ∷ Ok found.Absent ∷ Ok found.Closed ∷ Err TableUnfit ∷ []) ≡ given (found_at 1) ∷ given absent ∷ given unreached ∷ refused 1 ∷ [])
+    × (map (answer_of {A = ℕ}) (Ok 1 ∷ Err PathCrowded ∷ Err PathClosed ∷ []) ≡ given 1 ∷ refused 10 ∷ refused 11 ∷ [])
 said = (refl, refl, refl)
 
 -- a table that meets every premise of `found_after_allocation`: n=3, hash 0, tags 81 7F 00, of which bucket 1 is given;

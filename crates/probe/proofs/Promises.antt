@@ -15,8 +15,7 @@ use Rattle.ht_file.specs.Places.{image_fits}
 use Rattle.ht_file.proofs.Laws.{both_hold, image_fits_facts}
 use Rattle.meta_map.specs.Tags.{full_tag}
 use Rattle.meta_map.proofs.Laws.{kind_empty, full_tag_not_empty}
-use Rattle.probe.specs.declared.Limit.{Limit}
-use Rattle.probe.specs.Path.{visit, visits, path_from, hits, is_empty, is_tombstone, is_free, is_hit, Stop, stop_at, nowhere, first_stop, page_end, holds, Sought, found_at, absent, unreached, stops_lookup, lookup_saw, looking_up, lookup_answer, allows, allocate_answer, tags_after, allocated_tags}
+use Rattle.probe.specs.Path.{Limit, visit, visits, path_from, hits, is_empty, is_tombstone, is_free, is_hit, Stop, stop_at, nowhere, first_stop, page_end, holds, Sought, found_at, absent, unreached, stops_lookup, lookup_saw, looking_up, lookup_answer, allows, allocate_answer, tags_after, allocated_tags}
 use Rattle.blocks.proofs.Same.{same_equal, equal_same}
 use Rattle.probe.proofs.Tests.{empty_is}
 use Rattle.probe.proofs.Visits.{visit_below}

@@ -1,18 +1,15 @@
 -- 01, 'Path': the visits of a hash, and what probing on, lookup and allocation answer. Assumes nothing.
-use Rattle.std.specs.Prelude.{Bool, true, cond, ◌&&◌, ◌||◌, List, [], ◌∷◌, ℕ, zero, suc, ◌+◌, ◌*◌, ◌/◌, ◌%◌, leb, ltb, eqb, get_or, set, take, drop}
+use Rattle.std.specs.Prelude.{Bool, true, cond, Option, None, Some, Result, Ok, Err, ◌&&◌, ◌||◌, List, [], ◌∷◌, ℕ, zero, suc, ◌+◌, ◌*◌, ◌/◌, ◌%◌, leb, ltb, eqb, get_or, set, take, drop}
 use Rattle.answers.specs.Answers.{Answer, given, refused, and_then}
 use Rattle.answers.specs.Refusals.{number_of}
 use Rattle.blocks.specs.Blocks.{same_bytes}
 use Rattle.ht_file.specs.Places.{page_start, if_tags, if_image}
 use Rattle.meta_map.specs.Tags.{empty, tombstone, kind_of, is_kind, full_tag, one}
-use Rattle.probe.specs.declared.Limit.{Limit}
+use Rattle.answers.specs.declared.Refusal.{Refusal}
 use Rattle.probe.specs.declared.Probed.{Probed}
 use Rattle.probe.specs.declared.Found.{Found}
-use Rattle.probe.specs.declared.Allocated.{Allocated}
-use Rattle.probe.specs.declared.Limit.TheVariants as limit
 use Rattle.probe.specs.declared.Probed.TheVariants as probed
 use Rattle.probe.specs.declared.Found.TheVariants as found
-use Rattle.probe.specs.declared.Allocated.TheVariants as allocated
 
 -- "visit k, from 0, is at (hash + k(k+1)/2) mod n"
 unfoldable pub visit : ℕ → ℕ → ℕ → ℕ
@@ -108,18 +105,22 @@ looking_up img n h id = lookup_saw img (lookup_stop img n h id)
 abbrev pub lookup_answer : List ℕ → ℕ → ℕ → List ℕ → Answer Sought
 lookup_answer img n h id = if_image img n (given (looking_up img n h id))
 
--- "if at most 9,998 hits come before it": so many, or any number of them
+-- the hits that may come before a bucket that is given: so many, or any number
+abbrev pub Limit : Type 0
+Limit = Option ℕ
+
+-- "if at most 9,998 hits come before it"
 abbrev pub hit_limit : Limit
-hit_limit = limit.Hits 9998
+hit_limit = Some 9998
 
 abbrev pub allows : Limit → ℕ → Bool
-allows (limit.Hits most) k = leb k most
-allows limit.Unlimited k = true
+allows (Some most) k = leb k most
+allows None k = true
 
 -- "Otherwise 10 if the path has a hit, 11 if it has none"; without a limit hits do not matter
 abbrev pub no_bucket_by : Limit → ℕ → ℕ
-no_bucket_by (limit.Hits most) k = cond (ltb 0 k) 10 11
-no_bucket_by limit.Unlimited k = 11
+no_bucket_by (Some most) k = cond (ltb 0 k) 10 11
+no_bucket_by None k = 11
 
 -- "Allocation takes the first visit that is empty or a tombstone"; the limit is the first argument
 abbrev pub free_at : List ℕ → ℕ → Bool
@@ -152,20 +153,16 @@ tags_after (refused m) ts h = ts
 abbrev pub allocated_tags : Limit → List ℕ → ℕ → ℕ → List ℕ
 allocated_tags limit ts n h = tags_after (allocate_answer limit ts n h) ts h
 
--- what each case of the code's answers says
-abbrev pub probed_said : Probed → Answer Probe
-probed_said (probed.Empty b k) = given (empty_at b k)
-probed_said (probed.Tombstone b k) = given (tombstone_at b k)
-probed_said (probed.PossibleHit b k) = given (hit_at b k)
-probed_said probed.Closed = given closed
-probed_said (probed.Refused r) = refused (number_of r)
+-- what the code's results say; allocation's is `answer_of`
+abbrev pub probed_said : Result Probed Refusal → Answer Probe
+probed_said (Ok (probed.Empty b k)) = given (empty_at b k)
+probed_said (Ok (probed.Tombstone b k)) = given (tombstone_at b k)
+probed_said (Ok (probed.PossibleHit b k)) = given (hit_at b k)
+probed_said (Ok probed.Closed) = given closed
+probed_said (Err r) = refused (number_of r)
 
-abbrev pub found_said : Found → Answer Sought
-found_said (found.At b) = given (found_at b)
-found_said found.Absent = given absent
-found_said found.Closed = given unreached
-found_said (found.Refused r) = refused (number_of r)
-
-abbrev pub allocated_said : Allocated → Answer ℕ
-allocated_said (allocated.At b) = given b
-allocated_said (allocated.Refused r) = refused (number_of r)
+abbrev pub found_said : Result Found Refusal → Answer Sought
+found_said (Ok (found.At b)) = given (found_at b)
+found_said (Ok found.Absent) = given absent
+found_said (Ok found.Closed) = given unreached
+found_said (Err r) = refused (number_of r)

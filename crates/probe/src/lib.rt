@@ -4,23 +4,17 @@
 #![tactic(auto)]
 
 ghost use Rattle.std.specs.Prelude.{◌≡◌, ◌+◌, ◌*◌, ◌%◌, ◌≤◌, ◌<◌, length, take, drop};
+ghost use Rattle.answers.specs.Answers.{answer_of};
 ghost use Rattle.answers.specs.Refusals.{number_of};
 ghost use Rattle.blocks.specs.Blocks.{same_bytes};
-ghost use Rattle.probe.specs.Path.{probe_answer, lookup_answer, hit_limit, allows, no_bucket_by, allocate_answer, allocated_tags, probed_said, found_said, allocated_said};
+ghost use Rattle.probe.specs.Path.{probe_answer, lookup_answer, hit_limit, allows, no_bucket_by, allocate_answer, allocated_tags, probed_said, found_said};
 ghost use Rattle.probe.specs.InnerWalk.{stands, Ready, Met};
 
-use answers::{Outcome, Refusal};
+use answers::Refusal;
 use ht_file::{ID_AT, ID_SIZE};
 use meta_map::{EMPTY, TOMBSTONE};
 
-// The hits that may come before a bucket that is given: so many, or any number.
-#[derive(Clone, Copy)]
-pub enum Limit {
-    Hits(usize),
-    Unlimited,
-}
-
-// So many are let through by document 01.
+// So many hits are let through by document 01.
 const MAX_HITS: usize = 9998;
 
 // What probing on comes to first: a bucket, and the number of its visit.
@@ -30,7 +24,6 @@ pub enum Probed {
     Tombstone { bucket: u64, visit: u64 },
     PossibleHit { bucket: u64, visit: u64 },
     Closed,
-    Refused(Refusal),
 }
 
 // What lookup answers: the bucket that holds the page, or that no bucket does.
@@ -39,14 +32,6 @@ pub enum Found {
     At(u64),
     Absent,
     Closed,
-    Refused(Refusal),
-}
-
-// What allocation answers: the bucket that is given.
-#[derive(Clone, Copy)]
-pub enum Allocated {
-    At(u64),
-    Refused(Refusal),
 }
 
 // Where a walk along the path stands: the visit, its bucket, and how far on the next one lies, less
@@ -122,38 +107,35 @@ fn next_stop(tags: &[u8], n: usize, hash: u64, from: ProbeSequence, end: usize) 
 }
 
 // The first empty, tombstone or hit among the 2n visits from visit k on, k taken mod 2n.
-pub fn probe_from(tags: &[u8], n: usize, hash: u64, k: u64) -> Probed
+pub fn probe_from(tags: &[u8], n: usize, hash: u64, k: u64) -> Result<Probed, Refusal>
     ensures { probed_said result ≡ probe_answer tags.now n hash k }
 {
-    let fit = ht_file::check_tags(n, tags.len());
-    if let Outcome::Refused(why) = fit {
-        return Probed::Refused(why);
-    }
+    ht_file::check_tags(n, tags.len())?;
     let start = (k % (2 * n as u64)) as usize;
     let end = start + 2 * n;
     let first = ProbeSequence::new(n, hash, start);
     let p = next_stop(tags, n, hash, first, end);
     if end <= p.visit {
-        return Probed::Closed;
+        return Ok(Probed::Closed);
     }
     let b = p.bucket;
     let hint = tags[b];
     if hint == EMPTY {
-        return Probed::Empty {
+        return Ok(Probed::Empty {
             bucket: b as u64,
             visit: p.visit as u64,
-        };
+        });
     }
     if hint == TOMBSTONE {
-        return Probed::Tombstone {
+        return Ok(Probed::Tombstone {
             bucket: b as u64,
             visit: p.visit as u64,
-        };
+        });
     }
-    Probed::PossibleHit {
+    Ok(Probed::PossibleHit {
         bucket: b as u64,
         visit: p.visit as u64,
-    }
+    })
 }
 
 // Whether the 32 bytes at a place are the id; there may be fewer. All of them are looked at, which is the faster
@@ -179,13 +161,10 @@ pub fn ends_in(image: &[u8], at: usize, id: [u8; 32]) -> bool
 }
 
 // The bucket whose page ends in the id: the first such hit, unless an empty visit comes before it.
-pub fn lookup(image: &[u8], n: usize, hash: u64, id: [u8; 32]) -> Found
+pub fn lookup(image: &[u8], n: usize, hash: u64, id: [u8; 32]) -> Result<Found, Refusal>
     ensures { found_said result ≡ lookup_answer image.now n hash id }
 {
-    let fit = ht_file::check_image(n, image.len());
-    if let Outcome::Refused(why) = fit {
-        return Found::Refused(why);
-    }
+    ht_file::check_image(n, image.len())?;
     let full = meta_map::full_entry(hash);
     let end = 2 * n;
     let first = ProbeSequence::new(n, hash, 0);
@@ -194,56 +173,51 @@ pub fn lookup(image: &[u8], n: usize, hash: u64, id: [u8; 32]) -> Found
         let b = p.bucket;
         let tag = image[b];
         if tag == EMPTY {
-            return Found::Absent;
+            return Ok(Found::Absent);
         }
         if tag == full {
             if ends_in(image, ht_file::page_start(n, b) + ID_AT, id) {
-                return Found::At(b as u64);
+                return Ok(Found::At(b as u64));
             }
         }
         let on = p.next(n);
         p = next_stop(image, n, hash, on, end);
     }
-    Found::Closed
+    Ok(Found::Closed)
 }
 
-// Document 01's limit.
-pub fn hit_limit() -> Limit
+// Document 01's limit on the hits that may come before a bucket that is given; `None` lets any number through.
+pub fn hit_limit() -> Option<usize>
     ensures { result ≡ hit_limit }
 {
-    Limit::Hits(MAX_HITS)
+    Some(MAX_HITS)
 }
 
 // Whether a bucket may be given after so many hits.
-fn within_limit(limit: Limit, hits: usize) -> bool
+fn within_limit(limit: Option<usize>, hits: usize) -> bool
     ensures { result ≡ allows limit hits }
 {
     match limit {
-        Limit::Hits(most) => hits <= most,
-        Limit::Unlimited => true,
+        Some(most) => hits <= most,
+        None => true,
     }
 }
 
 // Why no bucket is given on a path with so many hits.
-fn no_bucket(limit: Limit, hits: usize) -> Refusal
+fn no_bucket(limit: Option<usize>, hits: usize) -> Refusal
     ensures { number_of result ≡ no_bucket_by limit hits }
 {
-    if let Limit::Hits(_) = limit {
-        if 0 < hits {
-            return Refusal::PathCrowded;
-        }
+    if limit.is_some() && 0 < hits {
+        return Refusal::PathCrowded;
     }
     Refusal::PathClosed
 }
 
 // The bucket that allocation gives for this hash; the tags are only read.
-pub fn find_bucket(tags: &[u8], n: usize, hash: u64, limit: Limit) -> Allocated
-    ensures { allocated_said result ≡ allocate_answer limit tags.now n hash }
+pub fn find_bucket(tags: &[u8], n: usize, hash: u64, limit: Option<usize>) -> Result<u64, Refusal>
+    ensures { answer_of result ≡ allocate_answer limit tags.now n hash }
 {
-    let fit = ht_file::check_tags(n, tags.len());
-    if let Outcome::Refused(why) = fit {
-        return Allocated::Refused(why);
-    }
+    ht_file::check_tags(n, tags.len())?;
     let full = meta_map::full_entry(hash);
     let end = 2 * n;
     let first = ProbeSequence::new(n, hash, 0);
@@ -252,30 +226,29 @@ pub fn find_bucket(tags: &[u8], n: usize, hash: u64, limit: Limit) -> Allocated
     while p.visit < end {
         let b = p.bucket;
         if tags[b] != full {
-            return Allocated::At(b as u64);
+            return Ok(b as u64);
         }
         hits += 1;
         if within_limit(limit, hits) {
             let on = p.next(n);
             p = next_stop(tags, n, hash, on, end);
         } else {
-            return Allocated::Refused(Refusal::PathCrowded);
+            return Err(Refusal::PathCrowded);
         }
     }
-    Allocated::Refused(no_bucket(limit, hits))
+    Err(no_bucket(limit, hits))
 }
 
 // Gives a bucket and writes the hash's full tag there; a refusal leaves every tag.
-pub fn allocate_bucket(tags: &mut [u8], n: usize, hash: u64, limit: Limit) -> Allocated
-    ensures { (allocated_said result ≡ allocate_answer limit tags.old n hash) × (tags.new ≡ allocated_tags limit tags.old n hash) }
+pub fn allocate_bucket(
+    tags: &mut [u8],
+    n: usize,
+    hash: u64,
+    limit: Option<usize>,
+) -> Result<u64, Refusal>
+    ensures { (answer_of result ≡ allocate_answer limit tags.old n hash) × (tags.new ≡ allocated_tags limit tags.old n hash) }
 {
-    let r = find_bucket(&tags[..], n, hash, limit);
-    match r {
-        Allocated::At(bucket) => {
-            let b = bucket as usize;
-            tags[b] = meta_map::full_entry(hash);
-            Allocated::At(bucket)
-        }
-        Allocated::Refused(why) => Allocated::Refused(why),
-    }
+    let bucket = find_bucket(tags, n, hash, limit)?;
+    tags[bucket as usize] = meta_map::full_entry(hash);
+    Ok(bucket)
 }

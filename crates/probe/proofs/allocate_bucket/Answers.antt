@@ -3,7 +3,7 @@ use Rattle.std.proofs.Common.{sym, arith}
 use Rattle.probe.proofs.Allocating.{answer_below}
 use Rattle.probe.proofs.allocate_bucket.Goals as goal
 
-pub bounds-tags-b : goal.bounds-tags-b
-bounds-tags-b c =
+pub bounds-tags-bucket : goal.bounds-tags-bucket
+bounds-tags-bucket c =
     let a = c.args in
-    omega (arith, answer_below a.limit a.tags.now a.n a.hash c.in-At.bucket (sym c.in-At.ensures))
+    omega (arith, answer_below a.limit a.tags.now a.n a.hash c.in_ok-bucket.bucket (sym c.in_ok-bucket.ensures))

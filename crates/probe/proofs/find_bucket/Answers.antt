@@ -8,10 +8,9 @@ use Rattle.answers.specs.Refusals.{number_of}
 use Rattle.ht_file.specs.Places.{tags_fit}
 use Rattle.ht_file.proofs.Laws.{table_fits}
 use Rattle.meta_map.specs.Tags.{full_tag, one}
-use Rattle.probe.specs.declared.Limit.{Limit}
 use Rattle.probe.specs.declared.ProbeSequence.{ProbeSequence}
 use Rattle.probe.specs.InnerWalk.{Met}
-use Rattle.probe.specs.Path.{is_free, is_hit, stops_probe, free_at, allows, no_bucket_by, allocating, allocate_answer}
+use Rattle.probe.specs.Path.{Limit, is_free, is_hit, stops_probe, free_at, allows, no_bucket_by, allocating, allocate_answer}
 use Rattle.probe.proofs.Tests.{full_not_free}
 use Rattle.probe.proofs.Visits.{hits_none, hits_next}
 use Rattle.probe.proofs.Walk.{tags_room, passed_more, Stepped, Walking, walk_start, walk_ready, walk_below, walk_stop, walk_next, walk_met, walk_end}
@@ -63,7 +62,7 @@ pub loop-p-init : goal.loop-p-init
 loop-p-init c =
     let a = c.args in
     let ts : List ℕ = a.tags.now in
-    let f = tags_room ts a.n (table_fits _ (sym c.in_default.ensures)) in
+    let f = tags_room ts a.n (table_fits _ (sym c.in_ok-check_tags.ensures)) in
     let new = c.new-first.ensures in
     goes_on ts a.n a.hash a.limit c.new-first.result c.next_stop-p.result 0 (walk_start (free_at ts) (length ts) a.n a.hash 0 c.new-first.result f.0 f.1 f.2 (omega (arith, f.0)) new)
     (sym (ap (λ (k : ℕ). hits_to ts a.n a.hash k) new.0 ∙ hits_none ts a.n a.hash 0)) (allows_none a.limit) (omega arith) c.next_stop-p.ensures
@@ -81,7 +80,7 @@ returns-then-tags-b c =
     let inv = c.loop-p.invariant in
     let tag : ℕ = get_or ts p.bucket 0 in
     let miss = ne_eqb tag (full_tag a.hash) (λ q. c.if-tags-b.true (q ∙ sym c.full_entry-full.ensures)) in
-    answered a.limit ts a.n a.hash (given p.bucket) (table_fits _ (sym c.in_default.ensures))
+    answered a.limit ts a.n a.hash (given p.bucket) (table_fits _ (sym c.in_ok-check_tags.ensures))
     (given_at a.limit ts a.n a.hash p.bucket p.visit
     (walk_stop (free_at ts) (length ts) a.n a.hash 0 p inv.walk (omega (arith, c.loop-p-test.true)) (or_left (is_free tag) (is_hit a.hash tag) (inv.stops c.loop-p-test.true) miss))
     (ap (allows a.limit) (sym inv.count) ∙ inv.few))
@@ -121,7 +120,7 @@ returns-else-within_limit c =
     let count = counted ts a.n a.hash a.limit p c.loop-p.hits inv tag in
     let not_free = full_not_free a.hash (get_or ts p.bucket 0) tag in
     let passed = passed_more (free_at ts) a.n a.hash 0 p.visit inv.walk.passed (ap (free_at ts) (sym inv.walk.stand.0) ∙ not_free) in
-    answered a.limit ts a.n a.hash (refused 10) (table_fits _ (sym c.in_default.ensures))
+    answered a.limit ts a.n a.hash (refused 10) (table_fits _ (sym c.in_ok-check_tags.ensures))
     (crowded a.limit ts a.n a.hash (p.visit + 1) (omega (arith, c.loop-p-test.true)) passed (omega (arith, count))
     (ap (allows a.limit) (sym count) ∙ sym c.if-within_limit.ensures))
 
@@ -132,6 +131,6 @@ returns c =
     let inv = c.loop-p.invariant in
     let past = c.loop-p-test.false in
     let last : c.loop-p.p.visit ≡ 2 * a.n = omega (arith, inv.walk.within, past) in
-    answered a.limit ts a.n a.hash (refused (number_of c.no_bucket.result)) (table_fits _ (sym c.in_default.ensures))
+    answered a.limit ts a.n a.hash (refused (number_of c.no_bucket.result)) (table_fits _ (sym c.in_ok-check_tags.ensures))
     (none_free a.limit ts a.n a.hash (walk_end (free_at ts) (length ts) a.n a.hash 0 c.loop-p.p inv.walk (omega (arith, past)))
     ∙ ap refused (ap (no_bucket_by a.limit) (ap (λ (k : ℕ). hits_to ts a.n a.hash k) (sym last) ∙ sym inv.count) ∙ sym c.no_bucket.ensures))

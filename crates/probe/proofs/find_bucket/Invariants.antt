@@ -1,8 +1,7 @@
 -- At the head of the loop: where the walk stands, and the hits before it. Assumes nothing.
 use Rattle.std.proofs.Common.{◌≡◌, true, List, ℕ, ◌-◌, ◌*◌, ◌≤◌, ◌<◌, length}
-use Rattle.probe.specs.declared.Limit.{Limit}
 use Rattle.probe.specs.declared.ProbeSequence.{ProbeSequence}
-use Rattle.probe.specs.Path.{stops_probe, free_at, allows}
+use Rattle.probe.specs.Path.{Limit, stops_probe, free_at, allows}
 use Rattle.probe.proofs.Walk.{Walking}
 use Rattle.probe.proofs.Allocating.{hits_to}
 use Rattle.probe.proofs.find_bucket.Given as goal

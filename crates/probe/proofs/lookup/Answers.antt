@@ -61,7 +61,7 @@ returns-then-tag-eq-EMPTY c =
     let a = c.args in
     let p = c.loop-p.p in
     let e = empty_is (get_or a.image.now p.bucket 0) c.if-tag-eq-EMPTY.true in
-    stopped a.image.now a.n a.hash a.id p c.loop-p.invariant absent (table_fits _ (sym c.in_default.ensures)) c.loop-p-test.true (rw e) (rw e)
+    stopped a.image.now a.n a.hash a.id p c.loop-p.invariant absent (table_fits _ (sym c.in_ok-check_image.ensures)) c.loop-p-test.true (rw e) (rw e)
 
 pub returns-then-ends_in : goal.returns-then-ends_in
 returns-then-ends_in c =
@@ -70,7 +70,7 @@ returns-then-ends_in c =
     let e = empty_not (get_or a.image.now p.bucket 0) c.if-tag-eq-EMPTY.false in
     let f = eq-eqb (get_or a.image.now p.bucket 0) (full_tag a.hash) (c.if-tag-full.true ∙ c.full_entry-full.ensures) in
     let s = compared a.image.now a.n a.hash a.id p c.loop-p.invariant c.page_start.result c.ends_in.result true c.page_start.ensures c.ends_in.ensures c.if-ends_in.true in
-    stopped a.image.now a.n a.hash a.id p c.loop-p.invariant (found_at p.bucket) (table_fits _ (sym c.in_default.ensures)) c.loop-p-test.true (rw (e, f, s)) (rw e)
+    stopped a.image.now a.n a.hash a.id p c.loop-p.invariant (found_at p.bucket) (table_fits _ (sym c.in_ok-check_image.ensures)) c.loop-p-test.true (rw (e, f, s)) (rw e)
 
 pub next-on-requires : goal.next-on-requires
 next-on-requires c =
@@ -106,5 +106,5 @@ loop-p-preserved c =
 pub returns : goal.returns
 returns c =
     let a = c.args in
-    answered a.image.now a.n a.hash a.id nowhere unreached (table_fits _ (sym c.in_default.ensures))
+    answered a.image.now a.n a.hash a.id nowhere unreached (table_fits _ (sym c.in_ok-check_image.ensures))
     (walk_end (stops_lookup a.image.now a.n a.hash a.id) (length a.image.now) a.n a.hash 0 c.loop-p.p c.loop-p.invariant (omega (arith, c.loop-p-test.false))) refl

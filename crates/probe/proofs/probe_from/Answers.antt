@@ -36,12 +36,12 @@ module _ (ts : List ℕ) (n h k : ℕ) (first p : ProbeSequence) (fits : tags_fi
 
 pub returns-then-end-p : goal.returns-then-end-p
 returns-then-end-p c =
-    ended c.args.tags.now c.args.n c.args.hash c.args.k c.new-first.result c.next_stop-p.result (table_fits _ (sym c.in_default.ensures)) c.new-first.ensures c.next_stop-p.ensures c.if-end-p.true
+    ended c.args.tags.now c.args.n c.args.hash c.args.k c.new-first.result c.next_stop-p.result (table_fits _ (sym c.in_ok-check_tags.ensures)) c.new-first.ensures c.next_stop-p.ensures c.if-end-p.true
 
 pub bounds-tags-b : goal.bounds-tags-b
 bounds-tags-b c =
     let a = c.args in
-    let fits = table_fits (tags_fit a.n (length a.tags.now)) (sym c.in_default.ensures) in
+    let fits = table_fits (tags_fit a.n (length a.tags.now)) (sym c.in_ok-check_tags.ensures) in
     let walk = walked a.tags.now a.n a.hash a.k c.new-first.result c.next_stop-p.result fits c.new-first.ensures c.next_stop-p.ensures in
     omega (arith, walk_below (stops_probe a.tags.now a.hash) (length a.tags.now) a.n a.hash (a.k % (2 * a.n)) c.next_stop-p.result walk, tags_room a.tags.now a.n fits)
 
@@ -50,7 +50,7 @@ returns-then-hint-eq-EMPTY c =
     let a = c.args in
     let p = c.next_stop-p.result in
     let e = empty_is (get_or a.tags.now p.bucket 0) c.if-hint-eq-EMPTY.true in
-    stopped a.tags.now a.n a.hash a.k c.new-first.result p (table_fits _ (sym c.in_default.ensures)) c.new-first.ensures c.next_stop-p.ensures (empty_at p.bucket p.visit) c.if-end-p.false (rw e)
+    stopped a.tags.now a.n a.hash a.k c.new-first.result p (table_fits _ (sym c.in_ok-check_tags.ensures)) c.new-first.ensures c.next_stop-p.ensures (empty_at p.bucket p.visit) c.if-end-p.false (rw e)
 
 pub returns-then-hint-eq-TOMBSTONE : goal.returns-then-hint-eq-TOMBSTONE
 returns-then-hint-eq-TOMBSTONE c =
@@ -58,7 +58,7 @@ returns-then-hint-eq-TOMBSTONE c =
     let p = c.next_stop-p.result in
     let e = empty_not (get_or a.tags.now p.bucket 0) c.if-hint-eq-EMPTY.false in
     let d = tombstone_is (get_or a.tags.now p.bucket 0) c.if-hint-eq-TOMBSTONE.true in
-    stopped a.tags.now a.n a.hash a.k c.new-first.result p (table_fits _ (sym c.in_default.ensures)) c.new-first.ensures c.next_stop-p.ensures (tombstone_at p.bucket p.visit) c.if-end-p.false (rw (e, d))
+    stopped a.tags.now a.n a.hash a.k c.new-first.result p (table_fits _ (sym c.in_ok-check_tags.ensures)) c.new-first.ensures c.next_stop-p.ensures (tombstone_at p.bucket p.visit) c.if-end-p.false (rw (e, d))
 
 pub returns : goal.returns
 returns c =
@@ -66,4 +66,4 @@ returns c =
     let p = c.next_stop-p.result in
     let e = empty_not (get_or a.tags.now p.bucket 0) c.if-hint-eq-EMPTY.false in
     let d = tombstone_not (get_or a.tags.now p.bucket 0) c.if-hint-eq-TOMBSTONE.false in
-    stopped a.tags.now a.n a.hash a.k c.new-first.result p (table_fits _ (sym c.in_default.ensures)) c.new-first.ensures c.next_stop-p.ensures (hit_at p.bucket p.visit) c.if-end-p.false (rw (e, d))
+    stopped a.tags.now a.n a.hash a.k c.new-first.result p (table_fits _ (sym c.in_ok-check_tags.ensures)) c.new-first.ensures c.next_stop-p.ensures (hit_at p.bucket p.visit) c.if-end-p.false (rw (e, d))
