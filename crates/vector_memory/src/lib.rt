@@ -3,12 +3,12 @@
 // are of words, of parts, and of lengths.
 #![tactic(auto)]
 
-ghost use Rattle.std.specs.Prelude.{◌≡◌, ◌+◌, ◌%◌, ◌^◌, ◌<◌, ◌≤◌, length, take, slice_index, slice_set};
-ghost use Rattle.answers.specs.Answers.{outcome_said, number_said, truth_said};
+ghost use Rattle.std.specs.Prelude.{◌≡◌, ◌%◌, ◌<◌, ◌≤◌, length, take, slice_index_or, slice_set};
+ghost use Rattle.answers.specs.Answers.{answer_of};
 ghost use Rattle.answers.specs.Refusals.{number_of};
 ghost use Rattle.vector_memory.specs.Words.{six, refusal_word, number_words, truth_words, counts, counted_by};
 
-use answers::{Number, Outcome, Refusal, Truth};
+use answers::Refusal;
 
 // What a call is given: an operation and its inputs.
 #[derive(Clone, Copy)]
@@ -24,7 +24,7 @@ pub struct In {
 }
 
 // An answer in words, zero where it has no more.
-#[derive(Clone, Copy)]
+#[derive(Clone, Copy, PartialEq, Eq)]
 pub struct Words {
     pub a: u64,
     pub b: u64,
@@ -34,56 +34,61 @@ pub struct Words {
     pub f: u64,
 }
 
+// An answer of six words.
 pub fn said6(a: u64, b: u64, c: u64, d: u64, e: u64, f: u64) -> Words
     ensures { result ≡ six a b c d e f }
 {
     Words { a, b, c, d, e, f }
 }
 
+// An answer of three words.
 pub fn said(a: u64, b: u64, c: u64) -> Words
     ensures { result ≡ six a b c 0 0 0 }
 {
     said6(a, b, c, 0, 0, 0)
 }
 
+// An answer of one word.
 pub fn one(a: u64) -> Words
     ensures { result ≡ six a 0 0 0 0 0 }
 {
     said(a, 0, 0)
 }
 
+// A refusal's number.
 pub fn number(why: Refusal) -> u64
     ensures { result ≡ number_of why }
 {
-    answers::number_of(why) as u64
+    u64::from(answers::number_of(why))
 }
 
 // A refusal's number, 0 for none.
-pub fn of_outcome(r: Outcome) -> u64
-    ensures { result ≡ refusal_word (outcome_said r) }
+pub fn of_outcome(r: Result<(), Refusal>) -> u64
+    ensures { result ≡ refusal_word (answer_of r) }
 {
     match r {
-        Outcome::Done => 0,
-        Outcome::Refused(why) => number(why),
+        Ok(()) => 0,
+        Err(why) => number(why),
     }
 }
 
-pub fn of_number(r: Number) -> Words
-    ensures { result ≡ number_words (number_said r) }
+// A number, or the refusal.
+pub fn of_number(r: Result<u64, Refusal>) -> Words
+    ensures { result ≡ number_words (answer_of r) }
 {
     match r {
-        Number::Is(x) => said(0, x, 0),
-        Number::Refused(why) => one(number(why)),
+        Ok(x) => said(0, x, 0),
+        Err(why) => one(number(why)),
     }
 }
 
-pub fn of_truth(r: Truth) -> Words
-    ensures { result ≡ truth_words (truth_said r) }
+// 1 for what holds and 0 for what does not, or the refusal.
+pub fn of_truth(r: Result<bool, Refusal>) -> Words
+    ensures { result ≡ truth_words (answer_of r) }
 {
     match r {
-        Truth::Holds => said(0, 1, 0),
-        Truth::Fails => said(0, 0, 0),
-        Truth::Refused(why) => one(number(why)),
+        Ok(holds) => said(0, u64::from(holds), 0),
+        Err(why) => one(number(why)),
     }
 }
 
@@ -94,6 +99,7 @@ pub struct Count {
     pub differ: u64,
 }
 
+// None were looked at yet.
 pub fn no_count() -> Count
     ensures { result ≡ counts 0 0 }
 {
@@ -103,98 +109,63 @@ pub fn no_count() -> Count
     }
 }
 
-fn more(x: u64) -> u64
-    ensures { result ≡ (x + 1) % 2 ^ 64 }
-{
-    std::num::wrapping_add_u64(x, 1)
-}
-
+// One more was looked at.
 pub fn counted(c: Count, well: bool) -> Count
     ensures { result ≡ counted_by c well }
 {
-    if well {
-        return Count {
-            answers: more(c.answers),
-            differ: c.differ,
-        };
-    }
     Count {
-        answers: more(c.answers),
-        differ: more(c.differ),
+        answers: c.answers.wrapping_add(1),
+        differ: if well {
+            c.differ
+        } else {
+            c.differ.wrapping_add(1)
+        },
     }
 }
 
 // ---- parts of what is lent
 
-pub fn byte(s: &[u8], i: usize) -> u8
-    ensures { result ≡ slice_index s.now i }
+// The element at i, or `none` past the end.
+pub fn element<T: Copy>(s: &[T], i: usize, none: T) -> T
+    ensures { result ≡ slice_index_or s.now i none }
+{
+    s.get(i).copied().unwrap_or(none)
+}
+
+// The element at i becomes x; past the end nothing does.
+pub fn put<T: Copy>(s: &mut [T], i: usize, x: T)
+    ensures { s.new ≡ slice_set s.old i x }
 {
     if i < s.len() {
-        return s[i];
-    }
-    0
-}
-
-pub fn put(s: &mut [u8], i: usize, b: u8)
-    ensures { s.new ≡ slice_set s.old i b }
-{
-    if i < s.len() {
-        s[i] = b;
-    }
-}
-
-pub fn word(ws: &[u64], i: usize) -> u64
-    ensures { result ≡ slice_index ws.now i }
-{
-    if i < ws.len() {
-        return ws[i];
-    }
-    0
-}
-
-pub fn put_word(ws: &mut [u64], i: usize, x: u64)
-    ensures { ws.new ≡ slice_set ws.old i x }
-{
-    if i < ws.len() {
-        ws[i] = x;
+        s[i] = x;
     }
 }
 
 // The first n of a slice, or all of a shorter one.
-pub fn part(s: &[u8], n: usize) -> &[u8]
+pub fn part<T>(s: &[T], n: usize) -> &[T]
     ensures { result.now ≡ take n s.now }
 {
-    if n <= s.len() {
-        return &s[..n];
-    }
-    s
+    &s[..n.min(s.len())]
 }
 
-pub fn hashes(s: &[u64], n: usize) -> &[u64]
-    ensures { result.now ≡ take n s.now }
-{
-    if n <= s.len() {
-        return &s[..n];
-    }
-    s
+// The same of a slice that is written to.
+pub fn lent<T>(s: &mut [T], n: usize) -> &mut [T] {
+    let n = n.min(s.len());
+    &mut s[..n]
 }
 
+// The lowest byte of a number.
 pub fn low_byte(x: u64) -> u8
     ensures { result ≡ x % 256 }
 {
     (x % 256) as u8
 }
 
+// The lowest four bytes of a number.
 pub fn low_four(x: u64) -> u32
     ensures { result ≡ x % 4294967296 }
 {
     (x % 4294967296) as u32
-}
-
-pub fn wide(b: u8) -> u64
-    ensures { result ≡ b }
-{
-    b as u64
 }
 
 // ---- 16 to 22: the memories
@@ -203,12 +174,10 @@ pub fn wide(b: u8) -> u64
 fn fill(s: &mut [u8], at: usize, count: usize, stride: usize, value: u64, step: u64) {
     let mut to = at;
     let mut x = value;
-    let mut i = 0;
-    while i < count {
+    for _ in 0..count {
         put(s, to, low_byte(x));
-        to = std::num::wrapping_add_usize(to, stride);
-        x = std::num::wrapping_add_u64(x, step);
-        i += 1;
+        to = to.wrapping_add(stride);
+        x = x.wrapping_add(step);
     }
 }
 
@@ -216,23 +185,19 @@ fn fill(s: &mut [u8], at: usize, count: usize, stride: usize, value: u64, step: 
 fn fill_words(s: &mut [u8], at: usize, count: usize, stride: usize, value: u64, step: u64) {
     let mut to = at;
     let mut x = value;
-    let mut i = 0;
-    while i < count {
+    for _ in 0..count {
         blocks::write_u64(s, to, x);
-        to = std::num::wrapping_add_usize(to, stride);
-        x = std::num::wrapping_add_u64(x, step);
-        i += 1;
+        to = to.wrapping_add(stride);
+        x = x.wrapping_add(step);
     }
 }
 
 // The same of a memory of words, one after another.
 fn fill_cells(s: &mut [u64], at: usize, count: usize, value: u64, step: u64) {
     let mut x = value;
-    let mut i = 0;
-    while i < count {
-        put_word(s, std::num::wrapping_add_usize(at, i), x);
-        x = std::num::wrapping_add_u64(x, step);
-        i += 1;
+    for i in 0..count {
+        put(s, at.wrapping_add(i), x);
+        x = x.wrapping_add(step);
     }
 }
 
@@ -244,42 +209,21 @@ fn mixture(i: u64, seed: u64) -> u8 {
 fn mingle(s: &mut [u8], at: usize, count: usize, seed: u64, period: usize) {
     let mut j: usize = 0;
     let mut x = seed;
-    let mut i: usize = 0;
-    while i < count {
-        put(s, std::num::wrapping_add_usize(at, i), mixture(j as u64, x));
-        i += 1;
-        j = std::num::wrapping_add_usize(j, 1);
+    for i in 0..count {
+        put(s, at.wrapping_add(i), mixture(j as u64, x));
+        j = j.wrapping_add(1);
         if j == period {
             j = 0;
-            x = std::num::wrapping_add_u64(x, 1);
+            x = x.wrapping_add(1);
         }
     }
-}
-
-fn differs(b: u8, from: u8) -> u64
-    ensures { result ≤ 1 }
-{
-    if b != from { 1 } else { 0 }
 }
 
 // How many bytes are not the given one.
 pub fn others(s: &[u8], than: u8) -> u64
     ensures { result ≤ length s.now }
 {
-    let mut count: u64 = 0;
-    let mut i = 0;
-    while i < s.len() {
-        count += differs(s[i], than);
-        i += 1;
-    }
-    count
-}
-
-fn folded(sum: u64, b: u8) -> u64
-    requires { sum < 1000003 }
-    ensures { result < 1000003 }
-{
-    (31 * sum + b as u64) % 1000003
+    s.iter().filter(|b| **b != than).count() as u64
 }
 
 // All bytes as one number.
@@ -287,16 +231,14 @@ pub fn weighed(s: &[u8]) -> u64
     ensures { result < 1000003 }
 {
     let mut sum: u64 = 0;
-    let mut i = 0;
-    while i < s.len() {
-        sum = folded(sum, byte(s, i));
-        i += 1;
+    for b in s {
+        sum = (31 * sum + u64::from(*b)) % 1000003;
     }
     sum
 }
 
 fn byte_at(s: &[u8], i: u64) -> u64 {
-    wide(byte(s, i as usize))
+    u64::from(element(s, i as usize, 0))
 }
 
 fn look(s: &[u8], w: In) -> Words {
@@ -311,8 +253,7 @@ fn look(s: &[u8], w: In) -> Words {
 }
 
 fn seen(w: In, s: &[u8]) -> Words {
-    let op = w.op;
-    match op {
+    match w.op {
         19 => look(s, w),
         20 => one(others(part(s, w.b as usize), low_byte(w.c))),
         21 => one(weighed(part(s, w.b as usize))),
@@ -323,8 +264,7 @@ fn seen(w: In, s: &[u8]) -> Words {
 fn filled(w: In, s: &mut [u8]) {
     let at = w.b as usize;
     let count = w.c as usize;
-    let op = w.op;
-    match op {
+    match w.op {
         16 => fill(s, at, count, w.d as usize, w.e, w.f),
         17 => fill_words(s, at, count, w.d as usize, w.e, w.f),
         _ => mingle(s, at, count, w.d, w.e as usize),
@@ -344,15 +284,14 @@ fn on_cells(w: In, c: &mut [u64]) -> Words {
         fill_cells(c, w.b as usize, w.c as usize, w.e, w.f);
         return one(0);
     }
-    one(word(c, w.b as usize))
+    one(element(c, w.b as usize, 0))
 }
 
 // The memory that is named is filled or looked at; each keeps its length.
 pub fn on_memory(w: In, a: &mut [u8], b: &mut [u8], c: &mut [u64]) -> Words
     ensures { (length a.new ≡ length a.old) × (length b.new ≡ length b.old) × (length c.new ≡ length c.old) }
 {
-    let memory = w.a;
-    match memory {
+    match w.a {
         0 => on_bytes(w, a),
         1 => on_bytes(w, b),
         _ => on_cells(w, c),
