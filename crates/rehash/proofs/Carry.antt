@@ -18,10 +18,9 @@ use Rattle.blocks.proofs.Laws.{block-length}
 use Rattle.ht_file.specs.Places.{tags_length, image_length, image_fits, page_start, tags_of}
 use Rattle.meta_map.specs.Tags.{full, full_tag, one, count_of, is_full}
 use Rattle.meta_map.proofs.Laws.{full_tag_not_empty, count-suc}
-use Rattle.probe.specs.Path.{visit, is_free, allocating}
+use Rattle.probe.specs.Path.{Limit, visit, is_free, allocating}
 use Rattle.probe.proofs.Visits.{visit_below}
 use Rattle.probe.proofs.Promises.{AllocatedAt, allocated_bucket}
-use Rattle.probe.specs.declared.Limit.{Limit}
 use Rattle.rehash.specs.Growth.{page_at, stored, zeroed, grown_to}
 use Rattle.rehash.proofs.Moves.{allocation_is, grown_none, grown_next, grown_stop}
 use Rattle.rehash.proofs.Stores.{full_not_free, free_not_full, tag_of, store_long, store_tag, store_tag_other, store_page, store_page_other, store_count, zero_at, zero_page, none_full}

@@ -4,13 +4,13 @@ use mathlib.Core.Path.{◌≡◌, refl}
 use mathlib.Core.List.{List, [], ◌∷◌, ◌++◌, map}
 use Prim.Native.Nat.{ℕ, ◌+◌, ◌^◌}
 use lib.ListN.{take, replicate}
+use Rattle.std.specs.Prelude.{Ok, Err}
 use Rattle.answers.specs.Answers.{given, refused}
 use Rattle.answers.specs.declared.Refusal.TheVariants.{MarkerLength, MarkerMagic, MarkerOrder, NothingPending, WouldShrink}
 use Rattle.probe.specs.Path.{hit_limit}
 use Rattle.rehash.specs.Marker.{Counts, marker, write_answer, written_marker, read_answer, marker_said}
 use Rattle.rehash.specs.Pending.{tidy, update_meta_then_tidy, pending_answer, decision_said}
 use Rattle.rehash.specs.Growth.{grown_to, done, nothing_to_do, growth_answer, growth_image, grown_said}
-use Rattle.rehash.specs.declared.MarkerRead.TheVariants as read
 use Rattle.rehash.specs.declared.Decision.TheVariants as decision
 use Rattle.rehash.specs.declared.Grown.TheVariants as grown
 
@@ -78,7 +78,7 @@ unfolding grown_to
 crowded_zero = refl
 
 -- each case of the code's answers
-pub said : (map marker_said (read.Is 4 8 ∷ read.Refused MarkerLength ∷ read.Refused MarkerMagic ∷ read.Refused MarkerOrder ∷ []) ≡ given (counts 4 8) ∷ refused 15 ∷ refused 16 ∷ refused 17 ∷ [])
-    × (map decision_said (decision.Tidy ∷ decision.UpdateMetaThenTidy ∷ decision.Refused NothingPending ∷ []) ≡ given tidy ∷ given update_meta_then_tidy ∷ refused 18 ∷ [])
-    × (map grown_said (grown.Done ∷ grown.NothingToDo ∷ grown.Refused WouldShrink ∷ []) ≡ given done ∷ given nothing_to_do ∷ refused 19 ∷ [])
+pub said : (map marker_said (Ok (record { old = 4; new = 8 }) ∷ Err MarkerLength ∷ Err MarkerMagic ∷ Err MarkerOrder ∷ []) ≡ given (counts 4 8) ∷ refused 15 ∷ refused 16 ∷ refused 17 ∷ [])
+    × (map decision_said (Ok decision.Tidy ∷ Ok decision.UpdateMetaThenTidy ∷ Err NothingPending ∷ []) ≡ given tidy ∷ given update_meta_then_tidy ∷ refused 18 ∷ [])
+    × (map grown_said (Ok grown.Done ∷ Ok grown.NothingToDo ∷ Err WouldShrink ∷ []) ≡ given done ∷ given nothing_to_do ∷ refused 19 ∷ [])
 said = (refl, refl, refl)

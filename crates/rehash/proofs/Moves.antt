@@ -15,9 +15,8 @@ use Rattle.blocks.proofs.Laws.{put-length}
 use Rattle.ht_file.specs.Places.{count_allowed, tags_length, image_length, tags_fit, image_fits, page_start, tags_of}
 use Rattle.ht_file.proofs.Laws.{both_hold, image_fits_facts}
 use Rattle.meta_map.specs.Tags.{full_tag, is_full}
-use Rattle.probe.specs.Path.{allocating, allocate_answer}
+use Rattle.probe.specs.Path.{Limit, allocating, allocate_answer}
 use Rattle.probe.proofs.Allocating.{answer_below}
-use Rattle.probe.specs.declared.Limit.{Limit}
 use Rattle.rehash.specs.Growth.{page_at, stored, zeroed, bucket_moved, grown_to, copied, done, lengths_fit, end_of, growth_answer, image_or, growth_image}
 
 module _ (n : ℕ) (img : List ℕ) (fits : image_fits n (length img) ≡ true) where

@@ -16,11 +16,10 @@ use Rattle.ht_file.specs.Places.{count_allowed, image_length, image_fits, tags_o
 use Rattle.ht_file.proofs.Laws.{both_hold, allowed_bounds}
 use Rattle.meta_map.specs.Tags.{full, count_of, is_full}
 use Rattle.meta_map.proofs.Laws.{full_tag_not_empty}
-use Rattle.probe.specs.Path.{visit, allocating, page_end, found_at, lookup_answer}
+use Rattle.probe.specs.Path.{Limit, visit, allocating, page_end, found_at, lookup_answer}
 use Rattle.probe.proofs.Visits.{visit_below}
 use Rattle.probe.proofs.Allocating.{refused_numbers}
 use Rattle.probe.proofs.Promises.{HasPage, found_by}
-use Rattle.probe.specs.declared.Limit.{Limit}
 use Rattle.rehash.specs.Growth.{page_at, stored, zeroed, grown_to, copied, Growth, done, nothing_to_do, lengths_fit, end_of, growth_answer, image_or, growth_image}
 use Rattle.rehash.proofs.Moves.{grown_none, grown_next, grown_stop}
 use Rattle.rehash.proofs.Stores.{page_ends}

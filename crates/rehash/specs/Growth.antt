@@ -1,12 +1,12 @@
 -- 01, 'Growth', the copy: the new image by recursion over the old buckets. Assumes nothing.
-use Rattle.std.specs.Prelude.{Bool, cond, ◌&&◌, List, ℕ, zero, suc, ltb, eqb, length, get_or, set, replicate}
+use Rattle.std.specs.Prelude.{Result, Ok, Err, Bool, cond, ◌&&◌, List, ℕ, zero, suc, ltb, eqb, length, get_or, set, replicate}
 use Rattle.answers.specs.Answers.{Answer, given, refused, and_then}
 use Rattle.answers.specs.Refusals.{number_of}
 use Rattle.blocks.specs.Blocks.{block, put}
 use Rattle.ht_file.specs.Places.{count_allowed, tags_of, image_length, page_start, if_table}
 use Rattle.meta_map.specs.Tags.{is_full, full_tag}
-use Rattle.probe.specs.Path.{allocating}
-use Rattle.probe.specs.declared.Limit.{Limit}
+use Rattle.probe.specs.Path.{Limit, allocating}
+use Rattle.answers.specs.declared.Refusal.{Refusal}
 use Rattle.rehash.specs.declared.Grown.{Grown}
 use Rattle.rehash.specs.declared.Grown.TheVariants as grown
 
@@ -73,7 +73,7 @@ abbrev pub growth_image : Limit → List ℕ → ℕ → List ℕ → ℕ → Li
 growth_image limit old old_n new new_n hashes =
     cond (goes_on old old_n new new_n hashes) (image_or (zeroed new_n) (copied limit old old_n new_n hashes)) new
 
-abbrev pub grown_said : Grown → Answer Growth
-grown_said grown.Done = given done
-grown_said grown.NothingToDo = given nothing_to_do
-grown_said (grown.Refused r) = refused (number_of r)
+abbrev pub grown_said : Result Grown Refusal → Answer Growth
+grown_said (Ok grown.Done) = given done
+grown_said (Ok grown.NothingToDo) = given nothing_to_do
+grown_said (Err r) = refused (number_of r)

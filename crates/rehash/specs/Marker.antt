@@ -1,10 +1,10 @@
 -- 01, 'Growth': the marker of a growth that is under way. Assumes nothing.
-use Rattle.std.specs.Prelude.{cond, List, [], ◌∷◌, ◌++◌, ℕ, leb, eqb, length, replicate, take}
+use Rattle.std.specs.Prelude.{Result, Ok, Err, cond, List, [], ◌∷◌, ◌++◌, ℕ, leb, eqb, length, replicate, take}
 use Rattle.answers.specs.Answers.{Answer, given, refused}
 use Rattle.answers.specs.Refusals.{number_of}
 use Rattle.blocks.specs.Blocks.{le, bytes_of, block, same_bytes}
-use Rattle.rehash.specs.declared.MarkerRead.{MarkerRead}
-use Rattle.rehash.specs.declared.MarkerRead.TheVariants as read
+use Rattle.answers.specs.declared.Refusal.{Refusal}
+use Rattle.rehash.specs.declared.Marker.{Marker}
 
 -- "NOMTRH1" and a zero byte
 abbrev pub magic : List ℕ
@@ -18,7 +18,7 @@ marker old new = magic ++ bytes_of 4 old ++ bytes_of 4 new
 abbrev pub write_answer : ℕ → ℕ → Answer (Unit {0})
 write_answer old new = cond (leb new old) (refused 17) (given tt)
 
--- the bytes beside the answer: the marker, or zeros
+-- the bytes of a marker that is written; in the C interface zeros where none is
 abbrev pub written_marker : ℕ → ℕ → List ℕ
 written_marker old new = cond (leb new old) (replicate 16 0) (marker old new)
 
@@ -37,6 +37,6 @@ read_answer bs =
     (cond (same_bytes (take 8 bs) magic) (counts_of (le (block 4 bs 8)) (le (block 4 bs 12))) (refused 16))
     (refused 15)
 
-abbrev pub marker_said : MarkerRead → Answer Counts
-marker_said (read.Is o n) = given (record { old = o; new = n })
-marker_said (read.Refused r) = refused (number_of r)
+abbrev pub marker_said : Result Marker Refusal → Answer Counts
+marker_said (Ok m) = given (record { old = m.old; new = m.new })
+marker_said (Err r) = refused (number_of r)

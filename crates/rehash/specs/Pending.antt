@@ -1,9 +1,10 @@
 -- 01, 'Growth': what is left to do of a growth that was stopped, by the counts that its marker, the metadata and the table's file have.
 -- Assumes nothing.
-use Rattle.std.specs.Prelude.{cond, ◌&&◌, ℕ, leb, eqb}
+use Rattle.std.specs.Prelude.{Result, Ok, Err, cond, ◌&&◌, ℕ, leb, eqb}
 use Rattle.answers.specs.Answers.{Answer, given, refused}
 use Rattle.answers.specs.Refusals.{number_of}
 use Rattle.ht_file.specs.Places.{image_length, within_limit, if_table}
+use Rattle.answers.specs.declared.Refusal.{Refusal}
 use Rattle.rehash.specs.declared.Decision.{Decision}
 use Rattle.rehash.specs.declared.Decision.TheVariants as decision
 
@@ -21,7 +22,7 @@ decide old new meta len =
 abbrev pub pending_answer : ℕ → ℕ → ℕ → ℕ → Answer Left
 pending_answer old new meta len = if_table (within_limit old && within_limit new && within_limit meta) (cond (leb new old) (refused 17) (decide old new meta len))
 
-abbrev pub decision_said : Decision → Answer Left
-decision_said decision.Tidy = given tidy
-decision_said decision.UpdateMetaThenTidy = given update_meta_then_tidy
-decision_said (decision.Refused r) = refused (number_of r)
+abbrev pub decision_said : Result Decision Refusal → Answer Left
+decision_said (Ok decision.Tidy) = given tidy
+decision_said (Ok decision.UpdateMetaThenTidy) = given update_meta_then_tidy
+decision_said (Err r) = refused (number_of r)

@@ -3,36 +3,28 @@
 // which they are written, stay with the caller.
 #![tactic(auto)]
 
-ghost use Rattle.std.specs.Prelude.{◌≡◌, true, ◌+◌, ◌≤◌, ◌<◌, length};
-ghost use Rattle.answers.specs.Answers.{outcome_said};
+ghost use Rattle.std.specs.Prelude.{◌≡◌, true, ◌+◌, ◌≤◌, ◌<◌, length, IfOk};
+ghost use Rattle.answers.specs.Answers.{answer_of, done_of};
 ghost use Rattle.blocks.specs.Blocks.{block, put};
 ghost use Rattle.ht_file.specs.Places.{image_fits};
 ghost use Rattle.probe.specs.Path.{hit_limit};
 ghost use Rattle.rehash.specs.Marker.{write_answer, written_marker, read_answer, marker_said};
 ghost use Rattle.rehash.specs.Pending.{pending_answer, decision_said};
-ghost use Rattle.rehash.specs.Growth.{bucket_moved, copied, end_of, image_or, zeroed, done, growth_answer, growth_image, grown_said};
+ghost use Rattle.rehash.specs.Growth.{bucket_moved, copied, end_of, image_or, zeroed, growth_answer, growth_image, grown_said};
 
-use answers::{Outcome, Refusal};
+use answers::Refusal;
 use ht_file::PAGE_SIZE;
-use probe::Allocated;
 
 const MARKER_LEN: usize = 16;
 
 // "NOMTRH1" and a zero byte, as the number that these bytes are.
 const MARKER_MAGIC: u64 = 0x0031_4852_544D_4F4E;
 
-// A marker that was written, or zeros.
+// The bucket counts that a marker names: the table's, and those that it grows to.
 #[derive(Clone, Copy)]
-pub struct MarkerAnswer {
-    pub outcome: Outcome,
-    pub bytes: [u8; 16],
-}
-
-// The bucket counts of a marker that was read.
-#[derive(Clone, Copy)]
-pub enum MarkerRead {
-    Is { old: u32, new: u32 },
-    Refused(Refusal),
+pub struct Marker {
+    pub old: u32,
+    pub new: u32,
 }
 
 // What is left to do of a growth: remove its files, or write the new count to the metadata before.
@@ -40,7 +32,6 @@ pub enum MarkerRead {
 pub enum Decision {
     Tidy,
     UpdateMetaThenTidy,
-    Refused(Refusal),
 }
 
 // What the copy did.
@@ -48,78 +39,69 @@ pub enum Decision {
 pub enum Grown {
     Done,
     NothingToDo,
-    Refused(Refusal),
 }
 
 // The marker of a growth from `old` to `new` buckets.
-pub fn write_marker(old: u32, new: u32) -> MarkerAnswer
-    ensures { (outcome_said result.outcome ≡ write_answer old new) × (result.bytes ≡ written_marker old new) }
+pub fn write_marker(old: u32, new: u32) -> Result<[u8; 16], Refusal>
+    ensures answer { done_of result ≡ write_answer old new }
+    ensures value { IfOk result (λ bytes. bytes ≡ written_marker old new) }
 {
     if new <= old {
-        return MarkerAnswer {
-            outcome: Outcome::Refused(Refusal::MarkerOrder),
-            bytes: [0; 16],
-        };
+        return Err(Refusal::MarkerOrder);
     }
     let o = blocks::u32_bytes(old);
     let n = blocks::u32_bytes(new);
-    MarkerAnswer {
-        outcome: Outcome::Done,
-        bytes: [
-            0x4E, 0x4F, 0x4D, 0x54, 0x52, 0x48, 0x31, 0x00, o[0], o[1], o[2], o[3], n[0], n[1],
-            n[2], n[3],
-        ],
-    }
+    Ok([
+        0x4E, 0x4F, 0x4D, 0x54, 0x52, 0x48, 0x31, 0x00, o[0], o[1], o[2], o[3], n[0], n[1], n[2],
+        n[3],
+    ])
 }
 
 // The bucket counts that a marker names.
-pub fn read_marker(bytes: &[u8]) -> MarkerRead
+pub fn read_marker(bytes: &[u8]) -> Result<Marker, Refusal>
     ensures { marker_said result ≡ read_answer bytes.now }
 {
     if bytes.len() != MARKER_LEN {
-        return MarkerRead::Refused(Refusal::MarkerLength);
+        return Err(Refusal::MarkerLength);
     }
     let magic = blocks::read_u64(bytes, 0);
     if magic != MARKER_MAGIC {
-        return MarkerRead::Refused(Refusal::MarkerMagic);
+        return Err(Refusal::MarkerMagic);
     }
     let old = blocks::read_u32(bytes, 8);
     let new = blocks::read_u32(bytes, 12);
     if new <= old {
-        return MarkerRead::Refused(Refusal::MarkerOrder);
+        return Err(Refusal::MarkerOrder);
     }
-    MarkerRead::Is { old, new }
+    Ok(Marker { old, new })
 }
 
 // What is left to do of a growth from `old` to `new` buckets that was stopped, where the metadata say
 // `meta` buckets and the table's file is `file_len` long.
-pub fn pending(old: u64, new: u64, meta: u64, file_len: u64) -> Decision
+pub fn pending(old: u64, new: u64, meta: u64, file_len: u64) -> Result<Decision, Refusal>
     ensures { decision_said result ≡ pending_answer old new meta file_len }
 {
-    let fit = ht_file::check_limits(old, new, meta);
-    if let Outcome::Refused(why) = fit {
-        return Decision::Refused(why);
-    }
+    ht_file::check_limits(old, new, meta)?;
     if new <= old {
-        return Decision::Refused(Refusal::MarkerOrder);
+        return Err(Refusal::MarkerOrder);
     }
     let new_len = ht_file::page_start(new as usize, new as usize) as u64;
     if meta == new {
         if file_len == new_len {
-            return Decision::Tidy;
+            return Ok(Decision::Tidy);
         }
-        return Decision::Refused(Refusal::NothingPending);
+        return Err(Refusal::NothingPending);
     }
     if meta == old {
         if file_len == new_len {
-            return Decision::UpdateMetaThenTidy;
+            return Ok(Decision::UpdateMetaThenTidy);
         }
         let old_len = ht_file::page_start(old as usize, old as usize) as u64;
         if file_len == old_len {
-            return Decision::Tidy;
+            return Ok(Decision::Tidy);
         }
     }
-    Decision::Refused(Refusal::NothingPending)
+    Err(Refusal::NothingPending)
 }
 
 // Copies the page that starts at `from` in one image to `at` in another; every other byte stays.
@@ -143,26 +125,19 @@ fn move_bucket(
     hash: u64,
     new_image: &mut [u8],
     new_n: usize,
-) -> Outcome
+) -> Result<(), Refusal>
     requires { (image_fits old_n (length old_image.now) ≡ true) × (b < old_n) × (image_fits new_n (length new_image.old) ≡ true) }
-    ensures { (outcome_said result ≡ end_of tt (bucket_moved hit_limit old_image.now old_n new_n hash b new_image.old)) × (new_image.new ≡ image_or new_image.old (bucket_moved hit_limit old_image.now old_n new_n hash b new_image.old)) }
+    ensures { (answer_of result ≡ end_of tt (bucket_moved hit_limit old_image.now old_n new_n hash b new_image.old)) × (new_image.new ≡ image_or new_image.old (bucket_moved hit_limit old_image.now old_n new_n hash b new_image.old)) }
 {
     if meta_map::is_full(old_image[b]) {
         let tags = ht_file::page_start(new_n, 0);
-        let r = probe::allocate_bucket(&mut new_image[..tags], new_n, hash, probe::hit_limit());
-        match r {
-            Allocated::At(bucket) => {
-                let at = ht_file::page_start(new_n, bucket as usize);
-                let from = ht_file::page_start(old_n, b);
-                copy_page(new_image, at, old_image, from);
-                return Outcome::Done;
-            }
-            Allocated::Refused(why) => {
-                return Outcome::Refused(why);
-            }
-        }
+        let limit = probe::hit_limit();
+        let bucket = probe::allocate_bucket(&mut new_image[..tags], new_n, hash, limit)?;
+        let at = ht_file::page_start(new_n, bucket as usize);
+        let from = ht_file::page_start(old_n, b);
+        copy_page(new_image, at, old_image, from);
     }
-    Outcome::Done
+    Ok(())
 }
 
 // The copy, where all lengths fit: the new image is zeroed, then each old bucket moved, rising. Where one
@@ -173,22 +148,22 @@ fn rehash_to(
     new_image: &mut [u8],
     new_n: usize,
     hashes: &[u64],
-) -> Grown
+) -> Result<(), Refusal>
     requires { (image_fits old_n (length old_image.now) ≡ true) × (image_fits new_n (length new_image.old) ≡ true) × (length hashes.now ≡ old_n) }
-    ensures { (grown_said result ≡ end_of done (copied hit_limit old_image.now old_n new_n hashes.now)) × (new_image.new ≡ image_or (zeroed new_n) (copied hit_limit old_image.now old_n new_n hashes.now)) }
+    ensures { (answer_of result ≡ end_of tt (copied hit_limit old_image.now old_n new_n hashes.now)) × (new_image.new ≡ image_or (zeroed new_n) (copied hit_limit old_image.now old_n new_n hashes.now)) }
 {
     blocks::zero_all(new_image);
     let mut b = 0;
     while b < old_n {
         let hash = hashes[b];
         let moved = move_bucket(old_image, old_n, b, hash, new_image, new_n);
-        if let Outcome::Refused(why) = moved {
+        if let Err(why) = moved {
             blocks::zero_all(new_image);
-            return Grown::Refused(why);
+            return Err(why);
         }
         b += 1;
     }
-    Grown::Done
+    Ok(())
 }
 
 // The pages of a table's image copied into the zeroed image of a larger table, each to the bucket that its
@@ -200,27 +175,25 @@ pub fn grow(
     new_image: &mut [u8],
     new_n: usize,
     hashes: &[u64],
-) -> Grown
+) -> Result<Grown, Refusal>
     ensures { (grown_said result ≡ growth_answer hit_limit old_image.now old_n new_image.old new_n hashes.now) × (new_image.new ≡ growth_image hit_limit old_image.now old_n new_image.old new_n hashes.now) }
 {
-    let fit = ht_file::check_counts(old_n, new_n);
-    if let Outcome::Refused(why) = fit {
-        return Grown::Refused(why);
-    }
+    ht_file::check_counts(old_n, new_n)?;
     if new_n < old_n {
-        return Grown::Refused(Refusal::WouldShrink);
+        return Err(Refusal::WouldShrink);
     }
     if new_n == old_n {
-        return Grown::NothingToDo;
+        return Ok(Grown::NothingToDo);
     }
     if old_image.len() != ht_file::page_start(old_n, old_n) {
-        return Grown::Refused(Refusal::LengthUnfit);
+        return Err(Refusal::LengthUnfit);
     }
     if new_image.len() != ht_file::page_start(new_n, new_n) {
-        return Grown::Refused(Refusal::LengthUnfit);
+        return Err(Refusal::LengthUnfit);
     }
     if hashes.len() != old_n {
-        return Grown::Refused(Refusal::LengthUnfit);
+        return Err(Refusal::LengthUnfit);
     }
-    rehash_to(old_image, old_n, new_image, new_n, hashes)
+    rehash_to(old_image, old_n, new_image, new_n, hashes)?;
+    Ok(Grown::Done)
 }

@@ -6,8 +6,7 @@ use Rattle.blocks.specs.Blocks.{block, put}
 use Rattle.ht_file.specs.Places.{tags_length, tags_of, image_fits, page_start, start_in}
 use Rattle.ht_file.proofs.Laws.{image_fits_facts, start_is, tags_end}
 use Rattle.meta_map.specs.Tags.{full_tag}
-use Rattle.probe.specs.declared.Limit.{Limit}
-use Rattle.probe.specs.Path.{hit_limit, allocating, allocate_answer, allocated_tags, tags_after}
+use Rattle.probe.specs.Path.{Limit, hit_limit, allocating, allocate_answer, allocated_tags, tags_after}
 use Rattle.rehash.specs.Growth.{end_of, image_or}
 use Rattle.rehash.proofs.Moves.{allocation_is, given_below, tag_set, moved_full}
 use Rattle.rehash.proofs.move_bucket.Goals as goal
@@ -36,27 +35,27 @@ pub copy_page-requires : goal.copy_page-requires
 copy_page-requires c =
     let a = c.args in
     let img = a.new_image.now in
-    let b = c.in-At.bucket in
+    let b = c.in_ok-bucket.bucket in
     let at = c.page_start-tags.result in
     let new = image_fits_facts a.new_n (length img) c.requires.2 in
     let old = image_fits_facts a.old_n (length a.old_image.now) c.requires.0 in
-    let less = below a.new_n a.hash img c.requires.2 at c.page_start-tags.ensures c.hit_limit.result c.hit_limit.ensures b c.in-At.ensures.0 in
-    let is = tagged a.new_n a.hash img c.requires.2 at c.page_start-tags.ensures c.hit_limit.result c.hit_limit.ensures b c.in-At.ensures.0 c.allocate_bucket-r.new.tags c.in-At.ensures.1 in
+    let less = below a.new_n a.hash img c.requires.2 at c.page_start-tags.ensures c.hit_limit-limit.result c.hit_limit-limit.ensures b c.in_ok-bucket.ensures.0 in
+    let is = tagged a.new_n a.hash img c.requires.2 at c.page_start-tags.ensures c.hit_limit-limit.result c.hit_limit-limit.ensures b c.in_ok-bucket.ensures.0 c.allocate_bucket.new.tags c.in_ok-bucket.ensures.1 in
     let to = c.page_start-at.ensures ∙ start_is a.new_n b new.1 (omega arith) in
     let from = c.page_start-from.ensures ∙ start_is a.old_n a.b old.1 (omega arith) in
     (omega (arith, to, less, new, ap length is, length-set img b (full_tag a.hash)), omega (arith, from, old, c.requires.1))
 
-pub returns-in-At : goal.returns-in-At
-returns-in-At c =
+pub returns-in_ok-bucket : goal.returns-in_ok-bucket
+returns-in_ok-bucket c =
     let a = c.args in
     let img = a.new_image.now in
-    let b = c.in-At.bucket in
+    let b = c.in_ok-bucket.bucket in
     let at = c.page_start-tags.result in
     let new = image_fits_facts a.new_n (length img) c.requires.2 in
     let old = image_fits_facts a.old_n (length a.old_image.now) c.requires.0 in
-    let less = below a.new_n a.hash img c.requires.2 at c.page_start-tags.ensures c.hit_limit.result c.hit_limit.ensures b c.in-At.ensures.0 in
-    let gives = gave a.new_n a.hash img c.requires.2 at c.page_start-tags.ensures c.hit_limit.result c.hit_limit.ensures b c.in-At.ensures.0 in
-    let is = tagged a.new_n a.hash img c.requires.2 at c.page_start-tags.ensures c.hit_limit.result c.hit_limit.ensures b c.in-At.ensures.0 c.allocate_bucket-r.new.tags c.in-At.ensures.1 in
+    let less = below a.new_n a.hash img c.requires.2 at c.page_start-tags.ensures c.hit_limit-limit.result c.hit_limit-limit.ensures b c.in_ok-bucket.ensures.0 in
+    let gives = gave a.new_n a.hash img c.requires.2 at c.page_start-tags.ensures c.hit_limit-limit.result c.hit_limit-limit.ensures b c.in_ok-bucket.ensures.0 in
+    let is = tagged a.new_n a.hash img c.requires.2 at c.page_start-tags.ensures c.hit_limit-limit.result c.hit_limit-limit.ensures b c.in_ok-bucket.ensures.0 c.allocate_bucket.new.tags c.in_ok-bucket.ensures.1 in
     let to : c.page_start-at.result ≡ page_start a.new_n b = c.page_start-at.ensures ∙ start_is a.new_n b new.1 (omega arith) in
     let from : c.page_start-from.result ≡ page_start a.old_n a.b = c.page_start-from.ensures ∙ start_is a.old_n a.b old.1 (omega arith) in
     let e = moved_full hit_limit a.old_image.now a.old_n a.new_n a.hash a.b img (sym c.if-is_full.ensures) (given b) gives in (
