@@ -3,14 +3,14 @@
 #![tactic(auto)]
 
 ghost use Rattle.std.specs.Prelude.{◌≡◌, true, ◌+◌, ◌≤◌, ◌<◌, length};
-ghost use Rattle.answers.specs.Answers.{number_said};
+ghost use Rattle.answers.specs.Answers.{answer_of};
 ghost use Rattle.ht_file.specs.Places.{image_fits};
 ghost use Rattle.probe.specs.Path.{page_end};
 ghost use Rattle.label_search.specs.Labels.{labelled, doubled, doubled_answer};
 ghost use Rattle.label_search.specs.InnerSearch.{FirstDoubled};
 ghost use Rattle.label_search.specs.InnerFilter.{spread, folded, mixed, key_at, with_key, has_key, KeysOf, Noted, Marking, Suspected, Sought, Seeking, SoughtTo, FirstOfClass};
 
-use answers::{Number, Outcome};
+use answers::Refusal;
 use bucket_set::WORDS;
 use ht_file::ID_AT;
 
@@ -381,16 +381,13 @@ fn first_bucket(image: &[u8], n: usize, full: u64) -> usize
 
 // The first bucket whose label an earlier full bucket has, n where there is none. `full` says how many are
 // full: the time that the search takes depends on it, and the answer does not.
-pub fn first_doubled(image: &[u8], n: usize, full: u64) -> Number
-    ensures { number_said result ≡ doubled_answer image.now n }
+pub fn first_doubled(image: &[u8], n: usize, full: u64) -> Result<u64, Refusal>
+    ensures { answer_of result ≡ doubled_answer image.now n }
 {
-    let fit = ht_file::check_image(n, image.len());
-    if let Outcome::Refused(why) = fit {
-        return Number::Refused(why);
-    }
+    ht_file::check_image(n, image.len())?;
     let most = n as u64;
     if most < full {
-        return Number::Is(first_bucket(image, n, most) as u64);
+        return Ok(first_bucket(image, n, most) as u64);
     }
-    Number::Is(first_bucket(image, n, full) as u64)
+    Ok(first_bucket(image, n, full) as u64)
 }

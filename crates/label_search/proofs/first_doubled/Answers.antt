@@ -12,7 +12,7 @@ found : (img : List ℕ) (n r : ℕ) → image_fits n (length img) ≡ true → 
 found img n r fits f = ap given (first_found img n r f) ∙ sym (first_given img n fits)
 
 pub returns-then-most-full : goal.returns-then-most-full
-returns-then-most-full c = found c.args.image.now c.args.n c.first_bucket.result (table_fits _ (sym c.in_default.ensures)) c.first_bucket.ensures
+returns-then-most-full c = found c.args.image.now c.args.n c.first_bucket.result (table_fits _ (sym c.in_ok-check_image.ensures)) c.first_bucket.ensures
 
 pub returns : goal.returns
-returns c = found c.args.image.now c.args.n c.first_bucket-2.result (table_fits _ (sym c.in_default.ensures)) c.first_bucket-2.ensures
+returns c = found c.args.image.now c.args.n c.first_bucket-2.result (table_fits _ (sym c.in_ok-check_image.ensures)) c.first_bucket-2.ensures
