@@ -9,9 +9,10 @@ use lib.Dec.{eqb}
 use lib.ListN.{length, get_or, take, replicate}
 use lib.Seq.{get_or-take}
 use borrow.Author.Tests.{eqb-true}
+use Rattle.std.specs.Prelude.{Result}
 use Rattle.answers.specs.Answers.{Answer, given, refused, accepted}
-use Rattle.answers.specs.declared.Outcome.{Outcome}
-use Rattle.answers.proofs.Laws.{outcome_one, given_refused}
+use Rattle.answers.specs.declared.Refusal.{Refusal}
+use Rattle.answers.proofs.Laws.{answer_one, given_refused}
 use Rattle.blocks.specs.Blocks.{tabulate}
 use Rattle.blocks.proofs.Laws.{tabulate-length, tabulate-get_or, tabulate_is}
 use Rattle.page_diff.specs.Diff.{digit, marked, slots_below, count_of, reserved}
@@ -52,8 +53,8 @@ module _ (ws : List ℕ) (ns ms : List (List ℕ)) (held : ℕ) (page : List ℕ
       go (refused n) e = refl
 
   -- of the calls: one answer, one page
-  pub unpacks_alike : (r s : Outcome) (out end : List ℕ) → Unpacks ws ns held page r out → Unpacks ws ms held page s end → (r ≡ s) × (out ≡ end)
-  unpacks_alike r s out end p q = (outcome_one r s (p.0 ∙ sym q.0), p.1 ∙ unpack_ignores ∙ sym q.1)
+  pub unpacks_alike : (r s : Result (Unit {0}) Refusal) (out end : List ℕ) → Unpacks ws ns held page r out → Unpacks ws ms held page s end → (r ≡ s) × (out ≡ end)
+  unpacks_alike r s out end p q = (answer_one r s (p.0 ∙ sym q.0), p.1 ∙ unpack_ignores ∙ sym q.1)
 
 -- such tables, a node and then zeros or other bytes, where the call is accepted
 abbrev pub table_then : ℕ → List (List ℕ)

@@ -71,3 +71,11 @@ walk_end ws ls c s w f e h = go (dec_le (count_of ws) c)
     go (no p) =
         let a : SlotAt ws 128 c s = subst (SlotAt ws 128 c) (sym (walk_at ws ls c s w f)) (slot_at ws 128 c 128 (lt_of_not-le p)) in
         absurd (true≢false (sym a.has_mark ∙ plain_unmarked ws e s h a.below))
+
+-- in a turn the slot is one of a node
+pub walk_low : (ws ls : List ℕ) (c s : ℕ) → Walk ws ls c → s ≡ first_slot ls → s < 128 → reserved ws ≡ false → s < 126
+walk_low ws ls c s w f h e = go (dec_le 126 s)
+  where
+    go : Dec (126 ≤ s) → s < 126
+    go (yes p) = absurd (true≢false (sym (walk_slot ws ls c s w f h).has_mark ∙ plain_unmarked ws e s p h))
+    go (no p) = lt_of_not-le p

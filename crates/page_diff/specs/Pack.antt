@@ -1,7 +1,7 @@
 -- 01, 'Page' and 'Diff': the marked nodes of a page, packed and put back. Assumes nothing.
-use Rattle.std.specs.Prelude.{◌≡◌, cond, List, [], ◌++◌, map, ℕ, ◌-◌, ◌*◌, ◌/◌, ◌%◌, eqb, length, get_or, replicate}
-use Rattle.answers.specs.Answers.{Answer, given, refused, accepted, outcome_said}
-use Rattle.answers.specs.declared.Outcome.{Outcome}
+use Rattle.std.specs.Prelude.{◌≡◌, cond, List, [], ◌++◌, map, ℕ, ◌-◌, ◌*◌, ◌/◌, ◌%◌, eqb, length, get_or, replicate, Result}
+use Rattle.answers.specs.Answers.{Answer, given, refused, accepted, answer_of}
+use Rattle.answers.specs.declared.Refusal.{Refusal}
 use Rattle.blocks.specs.Blocks.{block, put, flat, tabulate}
 use Rattle.page_diff.specs.Diff.{marked, slots_below, slots, count_of, reserved}
 use Rattle.page_diff.specs.declared.Packed.{Packed}
@@ -61,5 +61,5 @@ unpacked_page ws ns count page =
     cond (accepted (unpack_answer ws count page)) (tabulate (unpacked_byte ws ns page) 4096) page
 
 -- what unpacking promises, of a table given or lent, with its answer r and the page afterwards
-abbrev pub Unpacks : List ℕ → List (List ℕ) → ℕ → List ℕ → Outcome → List ℕ → Type 0
-Unpacks ws ns count page r out = (outcome_said r ≡ unpack_answer ws count page) × (out ≡ unpacked_page ws ns count page)
+abbrev pub Unpacks : List ℕ → List (List ℕ) → ℕ → List ℕ → Result (Unit {0}) Refusal → List ℕ → Type 0
+Unpacks ws ns count page r out = (answer_of r ≡ unpack_answer ws count page) × (out ≡ unpacked_page ws ns count page)

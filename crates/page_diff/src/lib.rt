@@ -2,14 +2,13 @@
 // page_diff.rs. A diff goes by value throughout; pages are lent.
 #![tactic(auto)]
 
-ghost use Rattle.std.specs.Prelude.{◌≡◌, false, map, ◌+◌, ◌*◌, ◌≤◌, length, replicate};
-ghost use Rattle.answers.specs.Refusals.{number_of};
+ghost use Rattle.std.specs.Prelude.{◌≡◌, false, map, ◌+◌, ◌*◌, ◌<◌, ◌≤◌, length, IfOk, MatchOption};
 ghost use Rattle.blocks.specs.Blocks.{put, flat, tabulate};
-ghost use Rattle.answers.specs.Answers.{refused, outcome_said, truth_said, number_said};
+ghost use Rattle.answers.specs.Answers.{answer_of, done_of};
 ghost use Rattle.page_diff.specs.Diff.{slots, marked, count_of, reserved, set_answer, set_words, ask_answer, cleared_words, joined, first_slot, without_first, bytes_of_words, read_answer, read_words};
 ghost use Rattle.page_diff.specs.Pack.{node_at, table_of, packed_by, pack_answer, packed_of, nodes_put, pack_into_answer, packed_into, unpacked_byte, Unpacks};
 
-use answers::{Number, Outcome, Refusal, Truth};
+use answers::Refusal;
 
 // A page is 126 nodes of 32 bytes, 24 bytes that nobody has, the elided children and the page id.
 pub const PAGE_SIZE: usize = 4096;
@@ -34,20 +33,6 @@ pub struct Diff {
     pub words: [u64; 2],
 }
 
-// A diff, and whether it is the one asked for. (An array does not stand in an enum, so beside it.)
-#[derive(Clone, Copy)]
-pub struct DiffAnswer {
-    pub outcome: Outcome,
-    pub diff: Diff,
-}
-
-// The next marked slot, 128 where there is none, and the marks that are left.
-#[derive(Clone, Copy)]
-pub struct NextSlot {
-    pub slot: usize,
-    pub rest: Diff,
-}
-
 // The nodes of the marked slots in the slots' order, with their count; zeros from the count on.
 #[repr(C)]
 #[derive(Clone, Copy)]
@@ -56,30 +41,18 @@ pub struct Packed {
     pub count: usize,
 }
 
-#[derive(Clone, Copy)]
-pub struct Packing {
-    pub outcome: Outcome,
-    pub packed: Packed,
-}
-
 // A diff out of its sixteen bytes; one with bit 126 or 127 is refused.
-pub fn from_bytes(bytes: [u8; 16]) -> DiffAnswer
-    ensures { (outcome_said result.outcome ≡ read_answer bytes) × (result.diff.words ≡ read_words bytes) }
+pub fn from_bytes(bytes: [u8; 16]) -> Result<Diff, Refusal>
+    ensures answer { done_of result ≡ read_answer bytes }
+    ensures value { IfOk result (λ d. d.words ≡ read_words bytes) }
 {
     let lo = blocks::read_u64(&bytes, 0);
     let hi = blocks::read_u64(&bytes, 8);
     if hi < RESERVED {
         let words = [lo, hi];
-        return DiffAnswer {
-            outcome: Outcome::Done,
-            diff: Diff { words },
-        };
+        return Ok(Diff { words });
     }
-    let none = [0u64, 0];
-    DiffAnswer {
-        outcome: Outcome::Refused(Refusal::DiffReserved),
-        diff: Diff { words: none },
-    }
+    Err(Refusal::DiffReserved)
 }
 
 // The sixteen bytes of a diff, whatever its marks.
@@ -95,40 +68,32 @@ pub fn as_bytes(d: Diff) -> [u8; 16]
 }
 
 // Marks a slot of a node and drops the mark of a cleared page; a slot above 125 is refused.
-pub fn set_changed(d: Diff, slot: usize) -> DiffAnswer
-    ensures { (outcome_said result.outcome ≡ set_answer slot) × (result.diff.words ≡ set_words d.words slot) }
+pub fn set_changed(d: Diff, slot: usize) -> Result<Diff, Refusal>
+    ensures answer { done_of result ≡ set_answer slot }
+    ensures value { IfOk result (λ r. r.words ≡ set_words d.words slot) }
 {
     if 125 < slot {
-        return DiffAnswer {
-            outcome: Outcome::Refused(Refusal::SlotUnfit),
-            diff: d,
-        };
+        return Err(Refusal::SlotUnfit);
     }
     let w = slot / 64;
     let i = slot % 64;
     let mut r = d;
     r.words[w] = r.words[w] | 1 << i;
     r.words[1] = r.words[1] & 0x7fff_ffff_ffff_ffff;
-    DiffAnswer {
-        outcome: Outcome::Done,
-        diff: r,
-    }
+    Ok(r)
 }
 
 // Whether a slot is marked; above 127 there is none to ask after.
-pub fn changed(d: Diff, slot: usize) -> Truth
-    ensures { truth_said result ≡ ask_answer d.words slot }
+pub fn changed(d: Diff, slot: usize) -> Result<bool, Refusal>
+    ensures { answer_of result ≡ ask_answer d.words slot }
 {
     if 127 < slot {
-        return Truth::Refused(Refusal::SlotUnfit);
+        return Err(Refusal::SlotUnfit);
     }
     let w = slot / 64;
     let i = slot % 64;
     let x = d.words[w];
-    if (x >> i) % 2 == 1 {
-        return Truth::Holds;
-    }
-    Truth::Fails
+    Ok((x >> i) % 2 == 1)
 }
 
 // Marks the page as cleared; the other marks stay.
@@ -170,27 +135,21 @@ pub fn join(a: Diff, b: Diff) -> Diff
     Diff { words }
 }
 
-// The step along the marked slots, rising: the first of them, and the marks without it.
-pub fn next_slot(d: Diff) -> NextSlot
-    ensures { (result.slot ≡ first_slot d.words) × (result.rest.words ≡ without_first d.words) }
+// The step along the marked slots, rising: the first of them and the marks without it, while there is one.
+pub fn next_slot(d: Diff) -> Option<(usize, Diff)>
+    ensures { MatchOption result (first_slot d.words ≡ 128) (λ n. (n.0 < 128) × ((n.0 ≡ first_slot d.words) × (n.1.words ≡ without_first d.words))) }
 {
     let lo = d.words[0];
     let hi = d.words[1];
     if lo != 0 {
         let low = [lo & (lo - 1), hi];
-        return NextSlot {
-            slot: u64::trailing_zeros(lo) as usize,
-            rest: Diff { words: low },
-        };
+        return Some((u64::trailing_zeros(lo) as usize, Diff { words: low }));
     }
     if hi != 0 {
         let high = [0, hi & (hi - 1)];
-        return NextSlot {
-            slot: 64 + u64::trailing_zeros(hi) as usize,
-            rest: Diff { words: high },
-        };
+        return Some((64 + u64::trailing_zeros(hi) as usize, Diff { words: high }));
     }
-    NextSlot { slot: 128, rest: d }
+    None
 }
 
 // A packed table out of its nodes and their count.
@@ -208,29 +167,17 @@ pub fn nodes_of(p: Packed) -> [[u8; 32]; 126]
 }
 
 // The nodes of a page's marked slots. Refused: a page that is not 4,096 bytes (2), bit 126 or 127 (4).
-pub fn pack_changed_nodes(d: Diff, page: &[u8]) -> Packing
-    ensures { (outcome_said result.outcome ≡ pack_answer d.words page.now) × (result.packed ≡ packed_of d.words page.now) }
+pub fn pack_changed_nodes(d: Diff, page: &[u8]) -> Result<Packed, Refusal>
+    ensures answer { done_of result ≡ pack_answer d.words page.now }
+    ensures value { IfOk result (λ p. p ≡ packed_of d.words page.now) }
 {
     if page.len() != PAGE_SIZE {
-        return refused_packing(Refusal::LengthUnfit);
+        return Err(Refusal::LengthUnfit);
     }
     if is_reserved(d) {
-        return refused_packing(Refusal::DiffReserved);
+        return Err(Refusal::DiffReserved);
     }
-    Packing {
-        outcome: Outcome::Done,
-        packed: pack_up(pack_nodes(d, page), count(d)),
-    }
-}
-
-// A packing that answers no node.
-fn refused_packing(why: Refusal) -> Packing
-    ensures { (outcome_said result.outcome ≡ refused (number_of why)) × (result.packed ≡ packed_by (replicate 126 (replicate 32 0)) 0) }
-{
-    Packing {
-        outcome: Outcome::Refused(why),
-        packed: pack_up([[0u8; 32]; 126], 0),
-    }
+    Ok(pack_up(pack_nodes(d, page), count(d)))
 }
 
 // The table itself, for a whole page and a diff of nodes alone.
@@ -241,16 +188,12 @@ fn pack_nodes(d: Diff, page: &[u8]) -> [[u8; 32]; 126]
     let mut nodes = [[0u8; 32]; 126];
     let mut c = 0;
     let mut left = d;
-    loop {
-        let next = next_slot(left);
-        let s = next.slot;
-        if NODES_PER_PAGE <= s {
-            return nodes;
-        }
+    while let Some((s, rest)) = next_slot(left) {
         nodes[c] = blocks::block_32(page, 32 * s);
         c += 1;
-        left = next.rest;
+        left = rest;
     }
+    nodes
 }
 
 // The nodes of a page's marked slots, put one after the other.
@@ -260,15 +203,10 @@ fn put_marked_nodes(s: &mut [u8], at: usize, d: Diff, page: &[u8])
 {
     let mut c = 0;
     let mut left = d;
-    loop {
-        let next = next_slot(left);
-        let slot = next.slot;
-        if NODES_PER_PAGE <= slot {
-            return;
-        }
+    while let Some((slot, rest)) = next_slot(left) {
         blocks::put_32(s, at + 32 * c, blocks::block_32(page, 32 * slot));
         c += 1;
-        left = next.rest;
+        left = rest;
     }
 }
 
@@ -293,23 +231,23 @@ pub fn put_page_nodes(s: &mut [u8], at: usize, d: Diff, page: &[u8])
 // Packs the nodes of a page's marked slots into lent memory of 126 nodes, zeros after them, and answers
 // their count: what `pack_changed_nodes` answers by value, with no table between. Refused: a page that is not
 // 4,096 bytes (2), bit 126 or 127 (4), memory that is not 4,032 bytes (2).
-pub fn pack_into(nodes: &mut [u8], d: Diff, page: &[u8]) -> Number
-    ensures { (number_said result ≡ pack_into_answer d.words page.now nodes.old) × (nodes.new ≡ packed_into d.words page.now nodes.old) }
+pub fn pack_into(nodes: &mut [u8], d: Diff, page: &[u8]) -> Result<u64, Refusal>
+    ensures { (answer_of result ≡ pack_into_answer d.words page.now nodes.old) × (nodes.new ≡ packed_into d.words page.now nodes.old) }
 {
     if page.len() != PAGE_SIZE {
-        return Number::Refused(Refusal::LengthUnfit);
+        return Err(Refusal::LengthUnfit);
     }
     if is_reserved(d) {
-        return Number::Refused(Refusal::DiffReserved);
+        return Err(Refusal::DiffReserved);
     }
     if nodes.len() != NODES_SIZE {
-        return Number::Refused(Refusal::LengthUnfit);
+        return Err(Refusal::LengthUnfit);
     }
     let count = count(d);
     let used = 32 * count;
     put_page_nodes(nodes, 0, d, page);
     blocks::put_zeros(nodes, used, NODES_SIZE - used);
-    Number::Is(count as u64)
+    Ok(count as u64)
 }
 
 // Puts packed nodes, by value with their count, back at the marked slots of a page; every other byte stays.
@@ -320,27 +258,32 @@ pub fn unpack_changed_nodes(
     nodes: [[u8; 32]; 126],
     held: usize,
     page: &mut [u8],
-) -> Outcome
+) -> Result<(), Refusal>
     ensures { Unpacks d.words nodes held page.old result page.new }
 {
     unpack_lent_nodes(d, &nodes, held, page)
 }
 
 // The same of a lent table, so that none is moved.
-pub fn unpack_lent_nodes(d: Diff, nodes: &[[u8; 32]; 126], held: usize, page: &mut [u8]) -> Outcome
+pub fn unpack_lent_nodes(
+    d: Diff,
+    nodes: &[[u8; 32]; 126],
+    held: usize,
+    page: &mut [u8],
+) -> Result<(), Refusal>
     ensures { Unpacks d.words nodes.now held page.old result page.new }
 {
     if page.len() != PAGE_SIZE {
-        return Outcome::Refused(Refusal::LengthUnfit);
+        return Err(Refusal::LengthUnfit);
     }
     if is_reserved(d) {
-        return Outcome::Refused(Refusal::DiffReserved);
+        return Err(Refusal::DiffReserved);
     }
     if count(d) != held {
-        return Outcome::Refused(Refusal::LengthUnfit);
+        return Err(Refusal::LengthUnfit);
     }
     unpack_nodes(d, nodes, page);
-    Outcome::Done
+    Ok(())
 }
 
 // The nodes themselves, for a whole page and a diff of nodes alone.
@@ -350,15 +293,10 @@ fn unpack_nodes(d: Diff, nodes: &[[u8; 32]; 126], page: &mut [u8])
 {
     let mut c: usize = 0;
     let mut left = d;
-    loop {
-        let next = next_slot(left);
-        let s = next.slot;
-        if NODES_PER_PAGE <= s {
-            return;
-        }
+    while let Some((s, rest)) = next_slot(left) {
         let n = nodes[c];
         blocks::put_32(page, 32 * s, n);
         c += 1;
-        left = next.rest;
+        left = rest;
     }
 }
