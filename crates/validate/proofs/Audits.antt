@@ -9,11 +9,7 @@ use lib.Dec.{eqb}
 use lib.ListN.{length, get_or}
 use lib.Seq.{length-take-le, get_or-take}
 use borrow.Author.Tests.{eq-eqb, ne_eqb}
-use Rattle.answers.specs.Answers.{Answer, given, refused, truth_said, and_then}
-use Rattle.answers.specs.Refusals.{number_of}
-use Rattle.answers.specs.declared.Truth.{Truth}
-use Rattle.answers.specs.declared.Truth.TheVariants as T
-use Rattle.answers.proofs.Laws.{given_one, given_refused}
+use Rattle.answers.specs.Answers.{Answer, given, refused, and_then}
 use Rattle.ht_file.specs.Places.{count_allowed, tags_length, image_length, tags_fit, image_fits, tags_of, if_tags, if_table}
 use Rattle.ht_file.proofs.Laws.{both_hold, image_fits_facts, table_unfit}
 use Rattle.label_search.specs.Labels.{doubled}
@@ -116,9 +112,3 @@ module _ (n : ℕ) (img : List ℕ) (fits : image_fits n (length img) ≡ true) 
   -- the full tags are those of the image
   pub tags_counted : count_of full (tags_of n img) n ≡ count_of full img n
   tags_counted = count_agree full (tags_of n img) img n (λ i l. get_or-take (tags_length n) img i 0 (omega arith))
-
--- what the question after the padding told
-pub padding_told : (r : Truth) (t : Bool) → truth_said r ≡ given t → (r ≡ T.Holds → ⊥) → t ≡ false
-padding_told T.Holds t e o = absurd (o refl)
-padding_told T.Fails t e o = sym (given_one false t e)
-padding_told (T.Refused r) t e o = absurd (given_refused t (number_of r) (sym e))

@@ -10,15 +10,15 @@ use lib.Dec.{eqb}
 use lib.ListN.{get_or, replicate}
 use lib.Ieee.{binary64}
 use lib.Ieee as Ieee
-use Rattle.answers.specs.Answers.{Answer, given, refused, and_then}
+use Rattle.std.specs.Prelude.{Ok, Err}
+use Rattle.answers.specs.Answers.{Answer, given, refused, and_then, answer_of}
 use Rattle.answers.specs.declared.Refusal.TheVariants.{PaddingUsed, LabelTwice, TagWrong, EmptyFirst, NotReached}
 use Rattle.label_search.specs.Labels.{labelled, doubled}
 use Rattle.blocks.specs.Blocks.{all_zero}
 use Rattle.meta_map.specs.Tags.{full_tag, count_of, is_full}
 use Rattle.probe.specs.Path.{visit}
-use Rattle.validate.specs.Audit.{reaching, audit_visits, stops_reach, path_audit, bucket_audit, audited_to, rate_of, audit_of, audit_answer, audited_said}
+use Rattle.validate.specs.Audit.{reaching, audit_visits, stops_reach, path_audit, bucket_audit, audited_to, rate_of, audit_of, audit_answer}
 use Rattle.validate.specs.declared.Audit.{Audit}
-use Rattle.validate.specs.declared.Audited.TheVariants as audited
 use Rattle.validate.proofs.Audits.{audit_buckets}
 use Rattle.validate.proofs.Reaches.{reached_at, empty_at_lem, never_at}
 
@@ -118,6 +118,6 @@ pub visits_made : map audit_visits (1 ∷ 50000 ∷ 60000 ∷ []) ≡ 100000 ∷
 visits_made = refl
 
 -- each case of the code's answer
-pub said : map audited_said (audited.Passed (audit 2 1 0x3FE0000000000000) ∷ audited.Refused PaddingUsed ∷ audited.Refused LabelTwice ∷ audited.Refused TagWrong ∷ audited.Refused EmptyFirst ∷ audited.Refused NotReached ∷ [])
+pub said : map answer_of (Ok (audit 2 1 0x3FE0000000000000) ∷ Err PaddingUsed ∷ Err LabelTwice ∷ Err TagWrong ∷ Err EmptyFirst ∷ Err NotReached ∷ [])
     ≡ given (audit 2 1 0x3FE0000000000000) ∷ refused 20 ∷ refused 21 ∷ refused 22 ∷ refused 23 ∷ refused 24 ∷ []
 said = refl

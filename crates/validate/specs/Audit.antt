@@ -3,15 +3,12 @@ use Rattle.std.specs.Prelude.{Bool, cond, ◌||◌, List, ℕ, zero, suc, ◌*�
 use Rattle.std.specs.Float.Ieee as Ieee
 use Rattle.std.specs.Float.{binary64}
 use Rattle.answers.specs.Answers.{Answer, given, refused, and_then}
-use Rattle.answers.specs.Refusals.{number_of}
 use Rattle.ht_file.specs.Places.{tags_of, if_image}
 use Rattle.label_search.specs.Labels.{labelled, doubled}
 use Rattle.blocks.specs.Blocks.{all_zero}
 use Rattle.meta_map.specs.Tags.{full, is_full, full_tag, count_of, padding_empty}
 use Rattle.probe.specs.Path.{visits, Stop, stop_at, nowhere, first_stop, is_empty}
 use Rattle.validate.specs.declared.Audit.{Audit}
-use Rattle.validate.specs.declared.Audited.{Audited}
-use Rattle.validate.specs.declared.Audited.TheVariants as audited
 
 -- "Reachable: its bucket is visited within max(2n, 100,000) visits with no empty visit before"; 23: "empty met first", 24: "not reached"
 abbrev pub audit_visits : ℕ → ℕ
@@ -56,7 +53,3 @@ audit_answer img n hashes =
     (cond (eqb (length hashes) n)
     (cond (padding_empty (tags_of n img) n) (and_then (audited_to img n hashes n) (λ _. given (audit_of img n))) (refused 20))
     (refused 2))
-
-abbrev pub audited_said : Audited → Answer Audit
-audited_said (audited.Passed a) = given a
-audited_said (audited.Refused r) = refused (number_of r)
