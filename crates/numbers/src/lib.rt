@@ -3,13 +3,12 @@
 #![tactic(auto)]
 
 ghost use Rattle.std.specs.Prelude.{◌≡◌};
-ghost use Rattle.answers.specs.Answers.{outcome_said};
+ghost use Rattle.answers.specs.Answers.{answer_of};
 ghost use Rattle.answers.specs.Refusals.{number_of};
-ghost use Rattle.validate.specs.Audit.{audited_said};
 ghost use Rattle.numbers.specs.Numbers.{refusal_of, edition_of, edition_number, open_kind, writer_from, writer_kind, writer_at, audit_values};
 
-use answers::{Outcome, Refusal};
-use validate::{Audit, Audited};
+use answers::Refusal;
+use validate::Audit;
 use wal::{Edition, Writer};
 
 // The number of a refusal.
@@ -19,13 +18,13 @@ pub fn refusal_number(why: Refusal) -> u64
     answers::number_of(why) as u64
 }
 
-// The same, 0 where the call is done.
-pub fn refusal_of(o: Outcome) -> u64
-    ensures { result ≡ refusal_of (outcome_said o) }
+// The same of what a call answers, 0 where it is done.
+pub fn refusal_of<T>(r: &Result<T, Refusal>) -> u64
+    ensures { result ≡ refusal_of (answer_of r.now) }
 {
-    match o {
-        Outcome::Done => 0,
-        Outcome::Refused(why) => refusal_number(why),
+    match r {
+        Ok(_) => 0,
+        Err(why) => refusal_number(*why),
     }
 }
 
@@ -97,27 +96,17 @@ pub fn writer_at(w: Writer) -> u64
     }
 }
 
-// The number of an audit's refusal, 0 where it passes.
-pub fn audit_refusal(a: Audited) -> u64
-    ensures { result ≡ refusal_of (audited_said a) }
-{
-    match a {
-        Audited::Passed(_) => 0,
-        Audited::Refused(why) => refusal_number(why),
-    }
-}
-
 // The values of an audit that passes, zeros of one that does not.
-pub fn audit_values(a: Audited) -> Audit
-    ensures { result ≡ audit_values (audited_said a) }
+pub fn audit_values(a: Result<Audit, Refusal>) -> Audit
+    ensures { result ≡ audit_values (answer_of a) }
 {
     match a {
-        Audited::Passed(p) => Audit {
+        Ok(p) => Audit {
             capacity: p.capacity,
             occupied: p.occupied,
             rate: p.rate,
         },
-        Audited::Refused(_) => {
+        Err(_) => {
             let none: u32 = 0;
             Audit {
                 capacity: 0,
