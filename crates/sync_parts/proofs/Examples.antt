@@ -4,20 +4,20 @@ use mathlib.Core.Bool.{true, false}
 use mathlib.Core.List.{[], ◌∷◌, map}
 use Prim.Native.Nat.{◌-◌, ◌^◌}
 use lib.ListN.{replicate}
+use Rattle.std.specs.Prelude.{Ok, Err, None, Some}
 use Rattle.answers.specs.Answers.{given, refused}
 use Rattle.answers.specs.declared.Refusal.TheVariants.{LengthUnfit}
 use Rattle.meta_map.specs.Tags as tags
 use Rattle.page_diff.specs.Diff.{marked, slots_below}
 use Rattle.sync_parts.specs.Parts.{bucket, none, named_by, name_said, tag_fits, body_of, cells_at, full_tags}
 use Rattle.sync_parts.specs.declared.Where.TheVariants.{Known, Fresh as FreshPage, Cell}
-use Rattle.sync_parts.specs.declared.Name.TheVariants as N
 
 -- a known bucket, none, that of a cell, an unset cell, a cell that is not there
 pub names : map (λ w. named_by w (4 ∷ (2 ^ 64 - 1) ∷ [])) (Known 7 ∷ FreshPage ∷ Cell 0 ∷ Cell 1 ∷ Cell 2 ∷ [])
     ≡ given (bucket 7) ∷ given none ∷ given (bucket 4) ∷ given none ∷ refused 2 ∷ []
 names = refl
 
-pub said : map name_said (N.Bucket 7 ∷ N.None ∷ N.Refused LengthUnfit ∷ []) ≡ given (bucket 7) ∷ given none ∷ refused 2 ∷ []
+pub said : map name_said (Ok (Some 7) ∷ Ok None ∷ Err LengthUnfit ∷ []) ≡ given (bucket 7) ∷ given none ∷ refused 2 ∷ []
 said = refl
 
 -- the hash's tag alone: no other full one

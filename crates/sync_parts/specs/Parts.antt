@@ -1,15 +1,14 @@
 -- 01, 'Sync', and 02, W-203: what its parts decide and write. Assumes nothing.
-use Rattle.std.specs.Prelude.{Bool, true, false, cond, List, ℕ, ◌-◌, ◌^◌, ltb, eqb, length, get_or, set}
+use Rattle.std.specs.Prelude.{Bool, true, false, cond, List, ℕ, ◌-◌, ◌^◌, ltb, eqb, length, get_or, set, Result, Ok, Err, Option, None, Some}
 use Rattle.answers.specs.Answers.{Answer, given, refused}
 use Rattle.answers.specs.Refusals.{number_of}
+use Rattle.answers.specs.declared.Refusal.{Refusal}
 use Rattle.ht_file.specs.Places.{tags_fit}
 use Rattle.meta_map.specs.Tags.{full, full_tag, count_of}
 use Rattle.page_diff.specs.Diff as diff
 use Rattle.wal.specs.Log.{clear_body, update_body}
 use Rattle.sync_parts.specs.declared.Where.{Where}
 use Rattle.sync_parts.specs.declared.Where.TheVariants.{Known, Fresh as FreshPage, Cell}
-use Rattle.sync_parts.specs.declared.Name.{Name}
-use Rattle.sync_parts.specs.declared.Name.TheVariants as N
 
 -- the bucket that a change names, if it names one
 pub data Named : Type 0 where
@@ -26,10 +25,10 @@ named_by (Known b) cells = given (bucket b)
 named_by FreshPage cells = given none
 named_by (Cell i) cells = cond (ltb i (length cells)) (given (cell_names (get_or cells i 0))) (refused 2)
 
-abbrev pub name_said : Name → Answer Named
-name_said (N.Bucket b) = given (bucket b)
-name_said N.None = given none
-name_said (N.Refused r) = refused (number_of r)
+abbrev pub name_said : Result (Option ℕ) Refusal → Answer Named
+name_said (Ok (Some b)) = given (bucket b)
+name_said (Ok None) = given none
+name_said (Err r) = refused (number_of r)
 
 -- the tag rule: "known, or a set cell, needs that tag to be the hash's"; and of a clearing change, 02, W-203: "the tag must be the full tag of the page's
 -- own hash"

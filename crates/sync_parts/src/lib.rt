@@ -3,10 +3,10 @@
 // take any numbers and any lent memory; `sync` puts them together.
 #![tactic(auto)]
 
-ghost use Rattle.std.specs.Prelude.{◌≡◌, ◌+◌, ◌-◌, ◌/◌, ◌^◌, min, set};
+ghost use Rattle.std.specs.Prelude.{◌≡◌, ◌/◌, set};
 ghost use Rattle.sync_parts.specs.Parts.{named_by, name_said, tag_fits, body_of, cells_at, full_tags};
 
-use answers::{Number, Refusal};
+use answers::Refusal;
 use page_diff::Diff;
 
 // A cell that has no bucket yet.
@@ -20,30 +20,22 @@ pub enum Where {
     Cell(usize),
 }
 
-// The bucket that a change names.
-#[derive(Clone, Copy)]
-pub enum Name {
-    Bucket(u64),
-    None,
-    Refused(Refusal),
-}
-
-// The bucket that is known, or that the cell has.
-pub fn name_of(place: Where, cells: &[u64]) -> Name
+// The bucket that a change names, if it names one: the one that is known, or that the cell has.
+pub fn name_of(place: Where, cells: &[u64]) -> Result<Option<u64>, Refusal>
     ensures { name_said result ≡ named_by place cells.now }
 {
     match place {
-        Where::Known(b) => Name::Bucket(b),
-        Where::Fresh => Name::None,
+        Where::Known(b) => Ok(Some(b)),
+        Where::Fresh => Ok(None),
         Where::Cell(i) => {
             if i < cells.len() {
                 let b = cells[i];
                 if b == UNSET {
-                    return Name::None;
+                    return Ok(None);
                 }
-                return Name::Bucket(b);
+                return Ok(Some(b));
             }
-            Name::Refused(Refusal::LengthUnfit)
+            Err(Refusal::LengthUnfit)
         }
     }
 }
@@ -98,28 +90,5 @@ pub fn set_cell(cells: &mut [u64], place: Where, b: u64)
 pub fn full_tags(tags: &[u8], n: usize) -> u64
     ensures { result ≡ full_tags n tags.now }
 {
-    if let Number::Is(k) = meta_map::full_count(tags, n) {
-        return k;
-    }
-    0
-}
-
-// One less: a number that was lent falsely stays within its type.
-pub fn one_less(o: u64) -> u64
-    ensures { result ≡ o - 1 }
-{
-    if o == 0 {
-        return 0;
-    }
-    o - 1
-}
-
-// One more, in the same way.
-pub fn one_more(o: u64) -> u64
-    ensures { result ≡ min (o + 1) (2 ^ 64 - 1) }
-{
-    if o == 0xffff_ffff_ffff_ffff {
-        return o;
-    }
-    o + 1
+    meta_map::full_count(tags, n).unwrap_or(0)
 }
