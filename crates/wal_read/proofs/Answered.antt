@@ -4,6 +4,7 @@ use mathlib.Core.List.{List, []}
 use Prim.Native.Nat.{ℕ, ◌+◌, ◌*◌}
 use native.Mathlib.Omega.{arith}
 use lib.ListN.{length, replicate}
+use Rattle.std.specs.Prelude.{Result, Ok, Err}
 use Rattle.answers.specs.Refusals.{number_of}
 use Rattle.answers.specs.declared.Refusal.{Refusal}
 use Rattle.answers.proofs.Laws.{refusal_one}
@@ -33,18 +34,18 @@ unfolding rows
 bare_packed p e = e
 
 module _ (at p : ℕ) (e : WalEntry) where
-  pub bare_clear : (n : Next) (b : ℕ) → n ≡ next (clear b) p → Bare (what.Clear b) p e → Taken n at e
+  pub bare_clear : (n : Next) (b : ℕ) → n ≡ next (clear b) p → Bare (Ok (what.Clear b)) p e → Taken n at e
   bare_clear n b h k =
       subst (λ (m : Next). Taken m at e) (sym h)
       (record { what_is = ap what_said k.what_is; id_is = k.id_is; diff_is = k.diff_is; packed_is = bare_packed e.packed k.packed_is; elided_is = k.elided_is; next_is = k.next_is })
 
 module _ (at : ℕ) (e : WalEntry) where
-  pub bare_end : (n : Next) → n ≡ ended → Bare what.End at e → Taken n at e
+  pub bare_end : (n : Next) → n ≡ ended → Bare (Ok what.End) at e → Taken n at e
   bare_end n h k =
       subst (λ (m : Next). Taken m at e) (sym h)
       (record { what_is = ap what_said k.what_is; id_is = k.id_is; diff_is = k.diff_is; packed_is = bare_packed e.packed k.packed_is; elided_is = k.elided_is; next_is = k.next_is })
 
-  pub bare_stop : (n : Next) (r : Refusal) → n ≡ stopped (number_of r) → Bare (what.Refused r) at e → Taken n at e
+  pub bare_stop : (n : Next) (r : Refusal) → n ≡ stopped (number_of r) → Bare (Err r) at e → Taken n at e
   bare_stop n r h k =
       subst (λ (m : Next). Taken m at e) (sym h)
       (record { what_is = ap what_said k.what_is; id_is = k.id_is; diff_is = k.diff_is; packed_is = bare_packed e.packed k.packed_is; elided_is = k.elided_is; next_is = k.next_is })
@@ -55,7 +56,7 @@ module _ (rule : AfterEnd) (ed : Edition) (log : List ℕ) (at b c p : ℕ) (e :
   body = at + mark_size ed
 
   -- the fields as they are read m bytes after the mark's first
-  pub update_taken : (m : ℕ) → m ≡ mark_size ed → e.what ≡ what.Update b → e.id ≡ block 32 log (at + m) → e.diff.words ≡ read_words (block 16 log (at + m + 32)) → e.packed ≡ packed_by (rows (nodes_from log (at + m + 48) c)) c
+  pub update_taken : (m : ℕ) → m ≡ mark_size ed → e.what ≡ Ok (what.Update b) → e.id ≡ block 32 log (at + m) → e.diff.words ≡ read_words (block 16 log (at + m + 32)) → e.packed ≡ packed_by (rows (nodes_from log (at + m + 48) c)) c
       → e.elided ≡ block 8 log (at + m + 48 + 32 * c) → e.next ≡ p → Taken (next_by rule ed log at) at e
   unfolding update_of
   update_taken m same-mark w i d k l n =
@@ -74,44 +75,44 @@ module _ (rule : AfterEnd) (ed : Edition) (log : List ℕ) (at b c p : ℕ) (e :
       })
 
 -- ---- two answers that a contract allows for one input are equal
-pub head_one : (a b : Head) → head_said a ≡ head_said b → a ≡ b
-head_one (head.Clear b p) (head.Clear a q) e = let f : b ≡ a = cc in let g : p ≡ q = cc in cc
-head_one (head.Clear b p) (head.Update a c q) e = let z : ◌≡◌ {A = ℕ} 0 1 = cc in absurd (omega arith)
-head_one (head.Clear b p) head.End e = let z : ◌≡◌ {A = ℕ} 0 1 = cc in absurd (omega arith)
-head_one (head.Clear b p) (head.Refused s) e = let z : ◌≡◌ {A = ℕ} 0 1 = cc in absurd (omega arith)
-head_one (head.Update b c p) (head.Clear a q) e = let z : ◌≡◌ {A = ℕ} 0 1 = cc in absurd (omega arith)
-head_one (head.Update b c p) (head.Update a d q) e = let f : b ≡ a = cc in let g : p ≡ q = cc in let h : c ≡ d = cc in cc
-head_one (head.Update b c p) head.End e = let z : ◌≡◌ {A = ℕ} 0 1 = cc in absurd (omega arith)
-head_one (head.Update b c p) (head.Refused s) e = let z : ◌≡◌ {A = ℕ} 0 1 = cc in absurd (omega arith)
-head_one head.End (head.Clear a q) e = let z : ◌≡◌ {A = ℕ} 0 1 = cc in absurd (omega arith)
-head_one head.End (head.Update a d q) e = let z : ◌≡◌ {A = ℕ} 0 1 = cc in absurd (omega arith)
-head_one head.End head.End e = refl
-head_one head.End (head.Refused s) e = let z : ◌≡◌ {A = ℕ} 0 1 = cc in absurd (omega arith)
-head_one (head.Refused r) (head.Clear a q) e = let z : ◌≡◌ {A = ℕ} 0 1 = cc in absurd (omega arith)
-head_one (head.Refused r) (head.Update a d q) e = let z : ◌≡◌ {A = ℕ} 0 1 = cc in absurd (omega arith)
-head_one (head.Refused r) head.End e = let z : ◌≡◌ {A = ℕ} 0 1 = cc in absurd (omega arith)
-head_one (head.Refused r) (head.Refused s) e = let f : number_of r ≡ number_of s = cc in ap head.Refused (refusal_one r s f)
+pub head_one : (a b : Result Head Refusal) → head_said a ≡ head_said b → a ≡ b
+head_one (Ok (head.Clear b p)) (Ok (head.Clear a q)) e = let f : b ≡ a = cc in let g : p ≡ q = cc in cc
+head_one (Ok (head.Clear b p)) (Ok (head.Update a c q)) e = let z : ◌≡◌ {A = ℕ} 0 1 = cc in absurd (omega arith)
+head_one (Ok (head.Clear b p)) (Ok head.End) e = let z : ◌≡◌ {A = ℕ} 0 1 = cc in absurd (omega arith)
+head_one (Ok (head.Clear b p)) (Err s) e = let z : ◌≡◌ {A = ℕ} 0 1 = cc in absurd (omega arith)
+head_one (Ok (head.Update b c p)) (Ok (head.Clear a q)) e = let z : ◌≡◌ {A = ℕ} 0 1 = cc in absurd (omega arith)
+head_one (Ok (head.Update b c p)) (Ok (head.Update a d q)) e = let f : b ≡ a = cc in let g : p ≡ q = cc in let h : c ≡ d = cc in cc
+head_one (Ok (head.Update b c p)) (Ok head.End) e = let z : ◌≡◌ {A = ℕ} 0 1 = cc in absurd (omega arith)
+head_one (Ok (head.Update b c p)) (Err s) e = let z : ◌≡◌ {A = ℕ} 0 1 = cc in absurd (omega arith)
+head_one (Ok head.End) (Ok (head.Clear a q)) e = let z : ◌≡◌ {A = ℕ} 0 1 = cc in absurd (omega arith)
+head_one (Ok head.End) (Ok (head.Update a d q)) e = let z : ◌≡◌ {A = ℕ} 0 1 = cc in absurd (omega arith)
+head_one (Ok head.End) (Ok head.End) e = refl
+head_one (Ok head.End) (Err s) e = let z : ◌≡◌ {A = ℕ} 0 1 = cc in absurd (omega arith)
+head_one (Err r) (Ok (head.Clear a q)) e = let z : ◌≡◌ {A = ℕ} 0 1 = cc in absurd (omega arith)
+head_one (Err r) (Ok (head.Update a d q)) e = let z : ◌≡◌ {A = ℕ} 0 1 = cc in absurd (omega arith)
+head_one (Err r) (Ok head.End) e = let z : ◌≡◌ {A = ℕ} 0 1 = cc in absurd (omega arith)
+head_one (Err r) (Err s) e = let f : number_of r ≡ number_of s = cc in ap Err (refusal_one r s f)
 
-pub what_one : (a b : What) → what_said a ≡ what_said b → a ≡ b
-what_one (what.Clear b) (what.Clear a) e = let f : b ≡ a = cc in cc
-what_one (what.Clear b) (what.Update a) e = let z : ◌≡◌ {A = ℕ} 0 1 = cc in absurd (omega arith)
-what_one (what.Clear b) what.End e = let z : ◌≡◌ {A = ℕ} 0 1 = cc in absurd (omega arith)
-what_one (what.Clear b) (what.Refused s) e = let z : ◌≡◌ {A = ℕ} 0 1 = cc in absurd (omega arith)
-what_one (what.Update b) (what.Clear a) e = let z : ◌≡◌ {A = ℕ} 0 1 = cc in absurd (omega arith)
-what_one (what.Update b) (what.Update a) e = let f : b ≡ a = cc in cc
-what_one (what.Update b) what.End e = let z : ◌≡◌ {A = ℕ} 0 1 = cc in absurd (omega arith)
-what_one (what.Update b) (what.Refused s) e = let z : ◌≡◌ {A = ℕ} 0 1 = cc in absurd (omega arith)
-what_one what.End (what.Clear a) e = let z : ◌≡◌ {A = ℕ} 0 1 = cc in absurd (omega arith)
-what_one what.End (what.Update a) e = let z : ◌≡◌ {A = ℕ} 0 1 = cc in absurd (omega arith)
-what_one what.End what.End e = refl
-what_one what.End (what.Refused s) e = let z : ◌≡◌ {A = ℕ} 0 1 = cc in absurd (omega arith)
-what_one (what.Refused r) (what.Clear a) e = let z : ◌≡◌ {A = ℕ} 0 1 = cc in absurd (omega arith)
-what_one (what.Refused r) (what.Update a) e = let z : ◌≡◌ {A = ℕ} 0 1 = cc in absurd (omega arith)
-what_one (what.Refused r) what.End e = let z : ◌≡◌ {A = ℕ} 0 1 = cc in absurd (omega arith)
-what_one (what.Refused r) (what.Refused s) e = let f : number_of r ≡ number_of s = cc in ap what.Refused (refusal_one r s f)
+pub what_one : (a b : Result What Refusal) → what_said a ≡ what_said b → a ≡ b
+what_one (Ok (what.Clear b)) (Ok (what.Clear a)) e = let f : b ≡ a = cc in cc
+what_one (Ok (what.Clear b)) (Ok (what.Update a)) e = let z : ◌≡◌ {A = ℕ} 0 1 = cc in absurd (omega arith)
+what_one (Ok (what.Clear b)) (Ok what.End) e = let z : ◌≡◌ {A = ℕ} 0 1 = cc in absurd (omega arith)
+what_one (Ok (what.Clear b)) (Err s) e = let z : ◌≡◌ {A = ℕ} 0 1 = cc in absurd (omega arith)
+what_one (Ok (what.Update b)) (Ok (what.Clear a)) e = let z : ◌≡◌ {A = ℕ} 0 1 = cc in absurd (omega arith)
+what_one (Ok (what.Update b)) (Ok (what.Update a)) e = let f : b ≡ a = cc in cc
+what_one (Ok (what.Update b)) (Ok what.End) e = let z : ◌≡◌ {A = ℕ} 0 1 = cc in absurd (omega arith)
+what_one (Ok (what.Update b)) (Err s) e = let z : ◌≡◌ {A = ℕ} 0 1 = cc in absurd (omega arith)
+what_one (Ok what.End) (Ok (what.Clear a)) e = let z : ◌≡◌ {A = ℕ} 0 1 = cc in absurd (omega arith)
+what_one (Ok what.End) (Ok (what.Update a)) e = let z : ◌≡◌ {A = ℕ} 0 1 = cc in absurd (omega arith)
+what_one (Ok what.End) (Ok what.End) e = refl
+what_one (Ok what.End) (Err s) e = let z : ◌≡◌ {A = ℕ} 0 1 = cc in absurd (omega arith)
+what_one (Err r) (Ok (what.Clear a)) e = let z : ◌≡◌ {A = ℕ} 0 1 = cc in absurd (omega arith)
+what_one (Err r) (Ok (what.Update a)) e = let z : ◌≡◌ {A = ℕ} 0 1 = cc in absurd (omega arith)
+what_one (Err r) (Ok what.End) e = let z : ◌≡◌ {A = ℕ} 0 1 = cc in absurd (omega arith)
+what_one (Err r) (Err s) e = let f : number_of r ≡ number_of s = cc in ap Err (refusal_one r s f)
 
 -- an entry is its fields
-abbrev entry : What → List ℕ → List ℕ → Packed → List ℕ → ℕ → WalEntry
+abbrev entry : Result What Refusal → List ℕ → List ℕ → Packed → List ℕ → ℕ → WalEntry
 entry w i ws k l n = record { what = w; id = i; diff = record { words = ws }; packed = k; elided = l; next = n }
 
 pub entry_one : (n : Next) (at : ℕ) (a b : WalEntry) → Taken n at a → Taken n at b → a ≡ b

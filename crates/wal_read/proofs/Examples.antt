@@ -4,6 +4,7 @@ use mathlib.Core.Path.{◌≡◌, refl}
 use mathlib.Core.List.{List, [], ◌∷◌, ◌++◌, map}
 use Prim.Native.Nat.{◌^◌}
 use lib.ListN.{take, set, replicate}
+use Rattle.std.specs.Prelude.{Ok, Err}
 use Rattle.answers.specs.Answers.{given, refused}
 use Rattle.answers.specs.declared.Refusal.TheVariants.{LogCut, TagUnknown, AfterEndUsed}
 use Rattle.blocks.specs.Blocks.{block, all_zero}
@@ -56,7 +57,7 @@ fields = (refl, refl, refl)
 
 -- the whole entry that a call answers at 14
 abbrev answered : WalEntry
-answered = record { what = what.Update 9; id = replicate 32 1; diff = record { words = 1 ∷ (2 ^ 61) ∷ [] }; packed = two_nodes; elided = replicate 8 4; next = 143 }
+answered = record { what = Ok (what.Update 9); id = replicate 32 1; diff = record { words = 1 ∷ (2 ^ 61) ∷ [] }; packed = two_nodes; elided = replicate 8 4; next = 143 }
 
 pub taken : Taken (next_at One log 14) 14 answered
 unfolding next_at block marked slots_below rows
@@ -78,8 +79,8 @@ unfolding next_at block all_zero
 after_end_lem = (refl, refl, refl)
 
 -- each case of the code's answers
-pub said : (map head_said (head.Clear 3 14 ∷ head.Update 9 2 143 ∷ head.End ∷ head.Refused TagUnknown ∷ []) ≡ a_clear 3 14 ∷ an_update 9 2 143 ∷ the_end ∷ a_refusal 8 ∷ [])
-    × (map what_said (what.Clear 3 ∷ what.Update 9 ∷ what.End ∷ what.Refused LogCut ∷ what.Refused AfterEndUsed ∷ []) ≡ clears 3 ∷ updates 9 ∷ ends ∷ refuses 6 ∷ refuses 27 ∷ [])
+pub said : (map head_said (Ok (head.Clear 3 14) ∷ Ok (head.Update 9 2 143) ∷ Ok head.End ∷ Err TagUnknown ∷ []) ≡ a_clear 3 14 ∷ an_update 9 2 143 ∷ the_end ∷ a_refusal 8 ∷ [])
+    × (map what_said (Ok (what.Clear 3) ∷ Ok (what.Update 9) ∷ Ok what.End ∷ Err LogCut ∷ Err AfterEndUsed ∷ []) ≡ clears 3 ∷ updates 9 ∷ ends ∷ refuses 6 ∷ refuses 27 ∷ [])
 said = (refl, refl)
 
 -- of a log of edition two: the clear at 22, the end at 32; a start later, a bare tag and 0xB2 with no known tag are 8; 0xB2 as the last byte is 6

@@ -7,10 +7,14 @@ use native.Mathlib.Omega.{arith}
 use lib.Dec.{leb, eqb}
 use lib.ListN.{length, get_or}
 use borrow.Author.Tests.{le-leb, lt-leb, leb-true, eq-eqb, ne_eqb, eqb-true, eqb-false}
-use Rattle.answers.specs.Answers.{Answer, given, refused}
+use Rattle.std.specs.Prelude.{Result, Ok, Err, IsOk}
+use Rattle.answers.specs.Refusals.{number_of}
+use Rattle.answers.specs.declared.Refusal.{Refusal}
+use Rattle.answers.specs.Answers.{Answer, given, refused, done_of}
 use Rattle.answers.proofs.Laws.{given_refused, refused_one}
 use Rattle.blocks.specs.Blocks.{le, block}
 use Rattle.page_diff.specs.Diff.{words_of, count_of, reserved, read_answer, read_words}
+use Rattle.page_diff.specs.declared.Diff.{Diff}
 use Rattle.wal.specs.Log.{clear, mark_size, update_body}
 use Rattle.wal.specs.Reader.{next, stopped, edition_at, marks_at, start_in, start_of, clear_at, update_at, update_of, diff_at, by_tag, by_mark, tag_at, next_at}
 use Rattle.wal.specs.declared.Edition.{Edition}
@@ -185,3 +189,8 @@ module _ (bs : List ℕ) where
 
   pub read_words_lem : reserved (words_of bs) ≡ false → read_words bs ≡ words_of bs
   read_words_lem h = ap (λ (b : Bool). cond b (0 ∷ 0 ∷ []) (words_of bs)) h
+
+-- the call that read it was not refused
+pub read_ok : (bs : List ℕ) (r : Result Diff Refusal) → done_of r ≡ read_answer bs → reserved (words_of bs) ≡ false → IsOk r
+read_ok bs (Ok d) e h = refl
+read_ok bs (Err k) e h = absurd (given_refused tt (number_of k) (sym (e ∙ ap (λ (b : Bool). cond b (refused 4) (given tt)) h)))

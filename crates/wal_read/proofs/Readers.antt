@@ -9,11 +9,12 @@ use Prim.Native.Nat.{ℕ, zero, suc, ◌+◌, ◌%◌}
 use native.Mathlib.Omega.{arith}
 use lib.ListN.{length, get_or, replicate}
 use denote.Ref.{Bor}
-use Rattle.answers.specs.Answers.{Answer, given, refused, number_said}
+use Rattle.std.specs.Prelude.{Result, Err}
+use Rattle.answers.specs.Answers.{Answer, given, refused, answer_of}
 use Rattle.answers.specs.Refusals.{number_of}
-use Rattle.answers.specs.declared.Number.{Number}
+use Rattle.answers.specs.declared.Refusal.{Refusal}
 use Rattle.answers.specs.declared.Refusal.TheVariants.{AfterEndUsed}
-use Rattle.answers.proofs.Laws.{number_one}
+use Rattle.answers.proofs.Laws.{answer_one}
 use Rattle.wal.specs.Log.{clear, update, mark_size}
 use Rattle.wal.specs.Reader.{Next, next, ended, stopped, edition_at, start_in, start_of, wanted}
 use Rattle.wal.specs.declared.AfterEnd.{AfterEnd}
@@ -24,7 +25,6 @@ use Rattle.wal.proofs.Endings.{next_agrees, next_differs}
 use Rattle.wal_read.specs.Entry.{Kind, ends, refuses, what_of, what_said, next_of, Taken}
 use Rattle.wal_read.specs.Set.{first_at, gives_by, gives_at, SetOn, as_tolerant, Gives, Reads, Over, at_end, at_refusal, Calls, none, call}
 use Rattle.wal_read.specs.declared.What.{What}
-use Rattle.wal_read.specs.declared.What.TheVariants as what
 use Rattle.wal_read.specs.declared.WalEntry.{WalEntry}
 use Rattle.wal_read.specs.declared.WalBlobReader.{WalBlobReader}
 use Rattle.wal_read.proofs.Answered.{what_one, entry_one}
@@ -36,10 +36,10 @@ fields_one a b l p s u = λ j. record { log = l j; at = p j; start = s j; rule =
 -- ---- two answers that a promise allows for one input are equal
 pub set_one : (rule : AfterEnd) (log : Bor (List ℕ)) (a b : WalBlobReader) → SetOn rule log a → SetOn rule log b → a ≡ b
 set_one rule log a b s t =
-    fields_one a b (s.log_is ∙ sym t.log_is) (s.at_is ∙ sym t.at_is) (number_one a.start b.start (s.start_is ∙ sym t.start_is)) (s.rule_is ∙ sym t.rule_is)
+    fields_one a b (s.log_is ∙ sym t.log_is) (s.at_is ∙ sym t.at_is) (answer_one a.start b.start (s.start_is ∙ sym t.start_is)) (s.rule_is ∙ sym t.rule_is)
 
 pub gives_one : (r : WalBlobReader) (d e : WalEntry) → Gives r d → Gives r e → d ≡ e
-gives_one r d e s t = entry_one (gives_at r.rule (number_said r.start) r.log.now r.at) r.at d e s t
+gives_one r d e s t = entry_one (gives_at r.rule (answer_of r.start) r.log.now r.at) r.at d e s t
 
 pub reads_one : (r : WalBlobReader) (d e : WalEntry) (a b : WalBlobReader) → Reads r d a → Reads r e b → (d ≡ e) × (a ≡ b)
 reads_one r d e a b s t =
@@ -49,16 +49,16 @@ reads_one r d e a b s t =
 -- ---- a reader that was set on a log
 module _ (rule : AfterEnd) (log : Bor (List ℕ)) (r : WalBlobReader) (set : SetOn rule log r) where
   -- "gives the sync number", or why there is none
-  pub set_seqn : (n : Number) → n ≡ r.start → number_said n ≡ start_of log.now
-  set_seqn n e = ap number_said e ∙ set.start_is
+  pub set_seqn : (n : Result ℕ Refusal) → n ≡ r.start → answer_of n ≡ start_of log.now
+  set_seqn n e = ap answer_of e ∙ set.start_is
 
   -- it gives what the log has for it, by the start
   pub set_gives : (e : WalEntry) → Gives r e → Taken (gives_at rule (start_of log.now) log.now (first_at log.now)) (first_at log.now) e
   set_gives e g =
       subst (λ (u : AfterEnd). Taken (gives_at u (start_of log.now) log.now (first_at log.now)) (first_at log.now) e) set.rule_is
       (subst (λ (a : Answer ℕ). Taken (gives_at r.rule a log.now (first_at log.now)) (first_at log.now) e) set.start_is
-      (subst (λ (l : Bor (List ℕ)). Taken (gives_at r.rule (number_said r.start) l.now (first_at log.now)) (first_at log.now) e) set.log_is
-      (subst (λ (p : ℕ). Taken (gives_at r.rule (number_said r.start) r.log.now p) p e) set.at_is g)))
+      (subst (λ (l : Bor (List ℕ)). Taken (gives_at r.rule (answer_of r.start) l.now (first_at log.now)) (first_at log.now) e) set.log_is
+      (subst (λ (p : ℕ). Taken (gives_at r.rule (answer_of r.start) r.log.now p) p e) set.at_is g)))
 
   -- made tolerant it is a tolerant reader set on that log, of which all of this holds
   pub tolerant_set : SetOn Tolerant log (as_tolerant r)
@@ -81,13 +81,13 @@ module _ (r : WalBlobReader) (e : WalEntry) (after : WalBlobReader) (read : Read
   pub over_stays : after ≡ r
   over_stays = fields_one after r read.log_stays (read.at_moves ∙ go e.what over refl) read.start_stays read.rule_stays
     where
-      here : Taken (gives_at r.rule (number_said r.start) r.log.now r.at) r.at e
+      here : Taken (gives_at r.rule (answer_of r.start) r.log.now r.at) r.at e
       here = read.entry_is
 
       kept : (what_said e.what ≡ ends → e.next ≡ r.at) × ((m : ℕ) → what_said e.what ≡ refuses m → e.next ≡ r.at)
-      kept = stays (gives_at r.rule (number_said r.start) r.log.now r.at) r.at e.next (what_said e.what) here.what_is here.next_is
+      kept = stays (gives_at r.rule (answer_of r.start) r.log.now r.at) r.at e.next (what_said e.what) here.what_is here.next_is
 
-      go : (w : What) → Over w → e.what ≡ w → e.next ≡ r.at
+      go : (w : Result What Refusal) → Over w → e.what ≡ w → e.next ≡ r.at
       go w at_end h = kept.0 (ap what_said h)
       go w (at_refusal why) h = kept.1 (number_of why) (ap what_said h)
 
@@ -115,8 +115,8 @@ pub second_gives : (rule : AfterEnd) (log : Bor (List ℕ)) (r after last : WalB
 second_gives rule log r after last d e set first second =
     subst (λ (p : ℕ). Taken (gives_at rule (start_of log.now) log.now p) p e) (first.at_moves ∙ (set_gives rule log r set d first.entry_is).next_is)
     (subst (λ (u : AfterEnd). Taken (gives_at u (start_of log.now) log.now after.at) after.at e) (first.rule_stays ∙ set.rule_is)
-    (subst (λ (a : Answer ℕ). Taken (gives_at after.rule a log.now after.at) after.at e) (ap number_said first.start_stays ∙ set.start_is)
-    (subst (λ (l : Bor (List ℕ)). Taken (gives_at after.rule (number_said after.start) l.now after.at) after.at e) (first.log_stays ∙ set.log_is) second.entry_is)))
+    (subst (λ (a : Answer ℕ). Taken (gives_at after.rule a log.now after.at) after.at e) (ap answer_of first.start_stays ∙ set.start_is)
+    (subst (λ (l : Bor (List ℕ)). Taken (gives_at after.rule (answer_of after.start) l.now after.at) after.at e) (first.log_stays ∙ set.log_is) second.entry_is)))
 
 -- "An edition one reader meets 0xB2 and answers 7, never entries": so an old program refuses a new log, wherever it stands
 pub old_reader_gives : (rule : AfterEnd) (log : List ℕ) (at : ℕ) → get_or log 0 0 ≡ 0xB2 → length log % 4096 ≡ 0 → gives_by rule One (start_in One log) log at ≡ stopped 7
@@ -129,7 +129,7 @@ pub again_27 : (r : WalBlobReader) (e : WalEntry) (after : WalBlobReader) → Re
 again_27 r e after read h = (over_stays r e after read over, λ es last calls. let all = over_always r e after read over es last calls in (ap (map (λ d. what_said d.what)) all.0 ∙ each (length es), all.1))
   where
     over : Over e.what
-    over = subst Over (sym (what_one e.what (what.Refused AfterEndUsed) h)) (at_refusal AfterEndUsed)
+    over = subst Over (sym (what_one e.what (Err AfterEndUsed) h)) (at_refusal AfterEndUsed)
 
     each : (n : ℕ) → map (λ d. what_said d.what) (replicate n e) ≡ replicate n (refuses 27)
     each zero = refl
@@ -147,7 +147,7 @@ gives_differs rule (refused n) log at = inl refl
 -- a reader, what it gives, and what its tolerant one gives
 module _ (r : WalBlobReader) (d e : WalEntry) (gives : Gives r d) (tolerates : Gives (as_tolerant r) e) where
   abbrev start : Answer ℕ
-  start = number_said r.start
+  start = answer_of r.start
 
   same : gives_at r.rule start r.log.now r.at ≡ gives_at Tolerant start r.log.now r.at → d ≡ e
   same h = entry_one (gives_at Tolerant start r.log.now r.at) r.at d e (subst (λ (n : Next). Taken n r.at d) h gives) tolerates

@@ -1,6 +1,7 @@
 -- 01, 'Reader': each field of an entry, by what stands at the position. Assumes nothing.
-use Rattle.std.specs.Prelude.{◌≡◌, List, [], ◌∷◌, ◌++◌, ℕ, ◌-◌, length, replicate}
+use Rattle.std.specs.Prelude.{◌≡◌, List, [], ◌∷◌, ◌++◌, ℕ, ◌-◌, length, replicate, Result, Ok, Err}
 use Rattle.answers.specs.Refusals.{number_of}
+use Rattle.answers.specs.declared.Refusal.{Refusal}
 use Rattle.page_diff.specs.Pack.{packed_by}
 use Rattle.page_diff.specs.declared.Packed.{Packed}
 use Rattle.wal.specs.Log.{clear, update}
@@ -22,11 +23,11 @@ what_of (next (update id ws ns elided b) p) = updates b
 what_of ended = ends
 what_of (stopped n) = refuses n
 
-abbrev pub what_said : What → Kind
-what_said (what.Clear b) = clears b
-what_said (what.Update b) = updates b
-what_said what.End = ends
-what_said (what.Refused r) = refuses (number_of r)
+abbrev pub what_said : Result What Refusal → Kind
+what_said (Ok (what.Clear b)) = clears b
+what_said (Ok (what.Update b)) = updates b
+what_said (Ok what.End) = ends
+what_said (Err r) = refuses (number_of r)
 
 -- of an update its id, words, nodes and elided children; zeros and no node otherwise
 abbrev pub id_of : Next → List ℕ

@@ -1,6 +1,7 @@
 -- 01, 'Reader': what there is at a position, without a record's id, diff, nodes and elided children. Assumes nothing.
-use Rattle.std.specs.Prelude.{ℕ}
+use Rattle.std.specs.Prelude.{ℕ, Result, Ok, Err}
 use Rattle.answers.specs.Refusals.{number_of}
+use Rattle.answers.specs.declared.Refusal.{Refusal}
 use Rattle.page_diff.specs.Diff.{count_of}
 use Rattle.wal.specs.Log.{clear, update}
 use Rattle.wal.specs.Reader.{Next, next, ended, stopped}
@@ -20,8 +21,8 @@ head_of (next (update id ws ns elided b) p) = an_update b (count_of ws) p
 head_of ended = the_end
 head_of (stopped n) = a_refusal n
 
-abbrev pub head_said : Head → Seen
-head_said (head.Clear b p) = a_clear b p
-head_said (head.Update b c p) = an_update b c p
-head_said head.End = the_end
-head_said (head.Refused r) = a_refusal (number_of r)
+abbrev pub head_said : Result Head Refusal → Seen
+head_said (Ok (head.Clear b p)) = a_clear b p
+head_said (Ok (head.Update b c p)) = an_update b c p
+head_said (Ok head.End) = the_end
+head_said (Err r) = a_refusal (number_of r)

@@ -1,7 +1,7 @@
 -- 01, 'Reader', and 02, W-208: "a reader set on a lent log", and what it gives. Assumes nothing.
-use Rattle.std.specs.Prelude.{◌≡◌, List, [], ◌∷◌, ℕ}
+use Rattle.std.specs.Prelude.{◌≡◌, List, [], ◌∷◌, ℕ, Result, Ok, Err}
 use Rattle.std.specs.Borrow.{Bor}
-use Rattle.answers.specs.Answers.{Answer, given, refused, number_said}
+use Rattle.answers.specs.Answers.{Answer, given, refused, answer_of}
 use Rattle.answers.specs.declared.Refusal.{Refusal}
 use Rattle.wal.specs.Log.{start_size}
 use Rattle.wal.specs.Reader.{Next, stopped, edition_at, start_of, next_by}
@@ -31,7 +31,7 @@ gives_at rule a log at = gives_by rule (edition_at log) a log at
 pub record SetOn (rule : AfterEnd) (log : Bor (List ℕ)) (r : WalBlobReader) : Type 0 where
   pub log_is : r.log ≡ log
   pub at_is : r.at ≡ first_at log.now
-  pub start_is : number_said r.start ≡ start_of log.now
+  pub start_is : answer_of r.start ≡ start_of log.now
   pub rule_is : r.rule ≡ rule
 
 -- "Tolerant calls with the former rule remain": the reader with that rule
@@ -40,7 +40,7 @@ as_tolerant r = record { log = r.log; at = r.at; start = r.start; rule = Toleran
 
 -- the entry at which it stands
 abbrev pub Gives : WalBlobReader → WalEntry → Type 0
-Gives r e = Taken (gives_at r.rule (number_said r.start) r.log.now r.at) r.at e
+Gives r e = Taken (gives_at r.rule (answer_of r.start) r.log.now r.at) r.at e
 
 -- "gives the next entry and moves on; each entry is taken apart or the reading stops there, position unchanged"
 pub record Reads (r : WalBlobReader) (e : WalEntry) (after : WalBlobReader) : Type 0 where
@@ -51,9 +51,9 @@ pub record Reads (r : WalBlobReader) (e : WalEntry) (after : WalBlobReader) : Ty
   pub rule_stays : after.rule ≡ r.rule
 
 -- an answer that ends the reading
-pub data Over : What → Type 0 where
-  at_end : Over what.End
-  at_refusal : (why : Refusal) → Over (what.Refused why)
+pub data Over : Result What Refusal → Type 0 where
+  at_end : Over (Ok what.End)
+  at_refusal : (why : Refusal) → Over (Err why)
 
 -- calls one after the other on one reader, with what each answers
 pub data Calls : WalBlobReader → List WalEntry → WalBlobReader → Type 0 where

@@ -4,19 +4,19 @@
 // name ends with `_tolerant`. `WalBlobReader` holds log, position and that, and what the log's start answered.
 #![tactic(auto)]
 
-ghost use Rattle.std.specs.Prelude.{◌≡◌, ◌+◌, ◌*◌, ◌≤◌, length};
-ghost use Rattle.answers.specs.Answers.{outcome_said, number_said};
+ghost use Rattle.std.specs.Prelude.{◌≡◌, ◌+◌, ◌*◌, ◌≤◌, length, Result, Ok, IfOk};
+ghost use Rattle.answers.specs.Answers.{answer_of, done_of};
 ghost use Rattle.blocks.specs.Blocks.{block};
 ghost use Rattle.page_diff.specs.Diff.{read_answer, read_words};
 ghost use Rattle.wal.specs.declared.AfterEnd.TheVariants.{Zeros, Tolerant};
 ghost use Rattle.wal.specs.Reader.{ended, edition_at, start_of, seed_of, by_tag, tag_at, wanted as after_end, next_by, nodes_from};
 ghost use Rattle.wal_read.specs.Head.{head_of, head_said};
 ghost use Rattle.wal_read.specs.Entry.{Taken, rows};
-ghost use Rattle.wal_read.specs.InnerEntry.{Bare, tag_said};
+ghost use Rattle.wal_read.specs.InnerEntry.{Bare};
 ghost use Rattle.wal_read.specs.Set.{first_at, gives_at, SetOn, as_tolerant, Gives, Reads};
 
-use answers::{Number, Outcome, Refusal};
-use page_diff::{Diff, DiffAnswer, Packed};
+use answers::Refusal;
+use page_diff::{Diff, Packed};
 use wal::{AfterEnd, Edition};
 
 // A record without its nodes: the bucket, the count of nodes, and the position after the record.
@@ -32,29 +32,21 @@ pub enum Head {
         next: usize,
     },
     End,
-    Refused(Refusal),
 }
 
-// The tag of a mark, or the refusal where there is none.
-#[derive(Clone, Copy)]
-enum Tag {
-    Is(u8),
-    Refused(Refusal),
-}
-
+// What an entry is, with its bucket.
 #[derive(Clone, Copy)]
 pub enum What {
     Clear(u64),
     Update(u64),
     End,
-    Refused(Refusal),
 }
 
-// An entry: what it is and its bucket; of an update the id, the diff, the nodes and the elided children,
-// all zero otherwise; and where the next one stands. (An array does not stand in an enum, so beside it.)
+// An entry: what it is and its bucket, or why there is none; of an update the id, the diff, the nodes and the elided
+// children, all zero otherwise; and where the next one stands. (An array does not stand in an enum, so beside it.)
 #[derive(Clone, Copy)]
 pub struct WalEntry {
-    pub what: What,
+    pub what: Result<What, Refusal>,
     pub id: [u8; 32],
     pub diff: Diff,
     pub packed: Packed,
@@ -83,100 +75,94 @@ pub fn seed_of(log: &[u8]) -> [u8; 16]
 
 // The sync number of a log of either edition, read when a reader is set on it: 5, 6 for an empty log, 7. The first
 // entry stands at wal::start_size of its edition.
-pub fn set(log: &[u8]) -> Number
-    ensures { number_said result ≡ start_of log.now }
+pub fn set(log: &[u8]) -> Result<u64, Refusal>
+    ensures { answer_of result ≡ start_of log.now }
 {
     if log.len() % wal::PAGE_SIZE != 0 {
-        return Number::Refused(Refusal::LogNotPages);
+        return Err(Refusal::LogNotPages);
     }
     if log.len() == 0 {
-        return Number::Refused(Refusal::LogCut);
+        return Err(Refusal::LogCut);
     }
     let body = wal::mark_size(edition_of(log));
     if log[body - 1] != wal::WAL_ENTRY_TAG_START {
-        return Number::Refused(Refusal::NoStart);
+        return Err(Refusal::NoStart);
     }
-    Number::Is(blocks::read_u32(log, body) as u64)
+    Ok(blocks::read_u32(log, body) as u64)
 }
 
 // The diff of the update whose body is at `body`, or a refusal of it.
-fn diff_at(log: &[u8], body: usize) -> DiffAnswer
+fn diff_at(log: &[u8], body: usize) -> Result<Diff, Refusal>
     requires { body + 48 ≤ length log.now }
-    ensures { (outcome_said result.outcome ≡ read_answer (block 16 log.now (body + 32))) × (result.diff.words ≡ read_words (block 16 log.now (body + 32))) }
+    ensures answer { done_of result ≡ read_answer (block 16 log.now (body + 32)) }
+    ensures value { IfOk result (λ d. d.words ≡ read_words (block 16 log.now (body + 32))) }
 {
     page_diff::from_bytes(blocks::block_16(log, body + wal::DIFF_AT))
 }
 
 // The tag of the mark at `at`: 6 where the log ends before it, 8 in edition two where 0xB2 is missing.
-fn tag_at(log: &[u8], at: usize, edition: Edition) -> Tag
-    ensures { tag_said result ≡ tag_at edition log.now at }
+fn tag_at(log: &[u8], at: usize, edition: Edition) -> Result<u8, Refusal>
+    ensures { answer_of result ≡ tag_at edition log.now at }
 {
     if log.len() <= at {
-        return Tag::Refused(Refusal::LogCut);
+        return Err(Refusal::LogCut);
     }
     let Edition::Two = edition else {
-        return Tag::Is(log[at]);
+        return Ok(log[at]);
     };
     if log[at] != wal::WAL_EDITION_TWO {
-        return Tag::Refused(Refusal::TagUnknown);
+        return Err(Refusal::TagUnknown);
     }
     if log.len() - at < 2 {
-        return Tag::Refused(Refusal::LogCut);
+        return Err(Refusal::LogCut);
     }
-    Tag::Is(log[at + 1])
+    Ok(log[at + 1])
 }
 
 // What stands from `body` on, after the mark of a tag, without its nodes. It looks at no byte past the record.
-fn head_after(log: &[u8], body: usize, tag: u8) -> Head
+fn head_after(log: &[u8], body: usize, tag: u8) -> Result<Head, Refusal>
     requires { body ≤ length log.now }
     ensures { head_said result ≡ head_of (by_tag tag log.now body) }
 {
     let left = log.len() - body;
     if tag == wal::WAL_ENTRY_TAG_END {
-        return Head::End;
+        return Ok(Head::End);
     }
     if tag == wal::WAL_ENTRY_TAG_CLEAR {
         if left < wal::CLEAR_BODY {
-            return Head::Refused(Refusal::LogCut);
+            return Err(Refusal::LogCut);
         }
-        return Head::Clear {
+        return Ok(Head::Clear {
             bucket: blocks::read_u64(log, body),
             next: body + wal::CLEAR_BODY,
-        };
+        });
     }
     if tag != wal::WAL_ENTRY_TAG_UPDATE {
-        return Head::Refused(Refusal::TagUnknown);
+        return Err(Refusal::TagUnknown);
     }
     if left < wal::NODES_AT {
-        return Head::Refused(Refusal::LogCut);
+        return Err(Refusal::LogCut);
     }
-    let read = diff_at(log, body);
-    let outcome = read.outcome;
-    if let Outcome::Refused(why) = outcome {
-        return Head::Refused(why);
-    }
-    let count = page_diff::count(read.diff);
+    let diff = diff_at(log, body)?;
+    let count = page_diff::count(diff);
     let size = wal::UPDATE_BODY + 32 * count;
     if left < size {
-        return Head::Refused(Refusal::LogCut);
+        return Err(Refusal::LogCut);
     }
-    Head::Update {
+    Ok(Head::Update {
         bucket: blocks::read_u64(log, body + (size - 8)),
         count,
         next: body + size,
-    }
+    })
 }
 
 // The record at `at` without its nodes, whatever follows end: its mark, and what is read after it. No sum wraps on a
 // position that no call answered.
-pub fn head_at_tolerant(log: &[u8], at: usize, edition: Edition) -> Head
+pub fn head_at_tolerant(log: &[u8], at: usize, edition: Edition) -> Result<Head, Refusal>
     ensures { head_said result ≡ head_of (next_by Tolerant edition log.now at) }
 {
-    let found = tag_at(log, at, edition);
-    match found {
-        Tag::Is(tag) => head_after(log, at + wal::mark_size(edition), tag),
-        Tag::Refused(why) => Head::Refused(why),
-    }
+    let tag = tag_at(log, at, edition)?;
+    head_after(log, at + wal::mark_size(edition), tag)
 }
 
 // Whether what stands from `from` on, after the mark of end, is what is wanted there. It is read once.
@@ -190,21 +176,21 @@ fn wanted(log: &[u8], from: usize, rule: AfterEnd) -> bool
 }
 
 // The record at `at` without its nodes, by what is wanted after end: 27 in place of end.
-pub fn head_by(log: &[u8], at: usize, edition: Edition, rule: AfterEnd) -> Head
+pub fn head_by(log: &[u8], at: usize, edition: Edition, rule: AfterEnd) -> Result<Head, Refusal>
     ensures { head_said result ≡ head_of (next_by rule edition log.now at) }
 {
-    let head = head_at_tolerant(log, at, edition);
+    let head = head_at_tolerant(log, at, edition)?;
     let Head::End = head else {
-        return head;
+        return Ok(head);
     };
     if wanted(log, at + wal::mark_size(edition), rule) {
-        return Head::End;
+        return Ok(Head::End);
     }
-    Head::Refused(Refusal::AfterEndUsed)
+    Err(Refusal::AfterEndUsed)
 }
 
 // The same, with zeros wanted after end.
-pub fn head_at(log: &[u8], at: usize, edition: Edition) -> Head
+pub fn head_at(log: &[u8], at: usize, edition: Edition) -> Result<Head, Refusal>
     ensures { head_said result ≡ head_of (next_by Zeros edition log.now at) }
 {
     head_by(log, at, edition, AfterEnd::Zeros)
@@ -225,7 +211,7 @@ fn nodes_at(log: &[u8], from: usize, count: usize) -> [[u8; 32]; 126]
 }
 
 // An entry that is no update.
-fn bare(what: What, next: usize) -> WalEntry
+fn bare(what: Result<What, Refusal>, next: usize) -> WalEntry
     ensures { Bare what next result }
 {
     let id = [0u8; 32];
@@ -247,22 +233,23 @@ fn bare(what: What, next: usize) -> WalEntry
 pub fn entry_by(log: &[u8], at: usize, edition: Edition, rule: AfterEnd) -> WalEntry
     ensures { Taken (next_by rule edition log.now at) at result }
 {
-    let head = head_by(log, at, edition, rule);
-    match head {
-        Head::Clear { bucket, next } => bare(What::Clear(bucket), next),
-        Head::Update {
-            bucket,
-            count,
-            next,
-        } => {
+    match head_by(log, at, edition, rule) {
+        Ok(Head::Clear { bucket, next }) => bare(Ok(What::Clear(bucket)), next),
+        Ok(
+            Head::Update {
+                bucket,
+                count,
+                next,
+            },
+        ) => {
             let body = at + wal::mark_size(edition);
             let id = blocks::block_32(log, body);
-            let read = diff_at(log, body);
-            let diff = read.diff;
+            // The head has read the diff already, so it is not refused.
+            let diff = diff_at(log, body).unwrap();
             let packed = page_diff::pack_up(nodes_at(log, body + wal::NODES_AT, count), count);
             let elided = blocks::block_8(log, body + wal::NODES_AT + 32 * count);
             WalEntry {
-                what: What::Update(bucket),
+                what: Ok(What::Update(bucket)),
                 id,
                 diff,
                 packed,
@@ -270,8 +257,8 @@ pub fn entry_by(log: &[u8], at: usize, edition: Edition, rule: AfterEnd) -> WalE
                 next,
             }
         }
-        Head::End => bare(What::End, at),
-        Head::Refused(why) => bare(What::Refused(why), at),
+        Ok(Head::End) => bare(Ok(What::End), at),
+        Err(why) => bare(Err(why), at),
     }
 }
 
@@ -279,7 +266,7 @@ pub fn entry_by(log: &[u8], at: usize, edition: Edition, rule: AfterEnd) -> WalE
 pub fn end_at(at: usize) -> WalEntry
     ensures { Taken ended at result }
 {
-    bare(What::End, at)
+    bare(Ok(What::End), at)
 }
 
 // The entry at `at`; zeros are wanted after end.
@@ -298,12 +285,12 @@ pub fn entry_at_tolerant(log: &[u8], at: usize, edition: Edition) -> WalEntry
 
 // What a reader whose start was answered so gives at `at`: the entry there, by the log's own edition and by what is
 // wanted after end, or the start's refusal again.
-pub fn entry_set(log: &[u8], at: usize, start: Number, rule: AfterEnd) -> WalEntry
-    ensures { Taken (gives_at rule (number_said start) log.now at) at result }
+pub fn entry_set(log: &[u8], at: usize, start: Result<u64, Refusal>, rule: AfterEnd) -> WalEntry
+    ensures { Taken (gives_at rule (answer_of start) log.now at) at result }
 {
     match start {
-        Number::Is(_) => entry_by(log, at, edition_of(log), rule),
-        Number::Refused(why) => bare(What::Refused(why), at),
+        Ok(_) => entry_by(log, at, edition_of(log), rule),
+        Err(at_start) => bare(Err(at_start), at),
     }
 }
 
@@ -313,7 +300,7 @@ pub fn entry_set(log: &[u8], at: usize, start: Number, rule: AfterEnd) -> WalEnt
 pub struct WalBlobReader<'a> {
     pub log: &'a [u8],
     pub at: usize,
-    pub start: Number,
+    pub start: Result<u64, Refusal>,
     pub rule: AfterEnd,
 }
 
@@ -352,7 +339,7 @@ pub fn tolerant<'a>(r: WalBlobReader<'a>) -> WalBlobReader<'a>
 }
 
 // The sync number that the start gave, or its refusal.
-pub fn sync_seqn<'a>(r: WalBlobReader<'a>) -> Number
+pub fn sync_seqn<'a>(r: WalBlobReader<'a>) -> Result<u64, Refusal>
     ensures { result ≡ r.entry.start }
 {
     r.start
