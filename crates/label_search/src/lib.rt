@@ -30,14 +30,12 @@ fn search_label(image: &[u8], n: usize, b: usize) -> bool
     ensures { result ≡ labelled image.now n (page_end image.now n b) b }
 {
     let label = blocks::block_32(image, ht_file::page_start(n, b) + ID_AT);
-    let mut j = 0;
-    while j < b {
+    for j in 0..b {
         if meta_map::is_full(image[j]) {
             if probe::ends_in(image, ht_file::page_start(n, j) + ID_AT, label) {
                 return true;
             }
         }
-        j += 1;
     }
     false
 }
@@ -115,17 +113,6 @@ fn has_key(filter: &[u64], key: u64) -> bool
 
 // ---- the passes over the labels of one class, 16 buckets at a time
 
-// The end of the block of buckets from b on.
-fn block_end(b: usize, end: usize) -> usize
-    requires { b < end }
-    ensures { (b < result) × (result ≤ end) × (result ≤ b + 16) }
-{
-    if end - b < BLOCK {
-        return end;
-    }
-    b + BLOCK
-}
-
 // The keys of the full buckets from `from` to `to`. All are read before any filter is written, so that
 // the waits for their memory overlap.
 fn label_keys(image: &[u8], n: usize, from: usize, to: usize) -> [u64; 16]
@@ -133,12 +120,10 @@ fn label_keys(image: &[u8], n: usize, from: usize, to: usize) -> [u64; 16]
     ensures { KeysOf image.now n from to result }
 {
     let mut keys = [0u64; 16];
-    let mut b = from;
-    while b < to {
+    for b in from..to {
         if meta_map::is_full(image[b]) {
             keys[b - from] = label_key(image, n, b);
         }
-        b += 1;
     }
     keys
 }
@@ -185,14 +170,8 @@ fn mark_block(
 {
     let keys = label_keys(image, n, from, to);
     let mut some = any;
-    let mut b = from;
-    while b < to {
-        let tag = image[b];
-        let key = keys[b - from];
-        if note_label(tag, key, classes, class, seen, suspects) {
-            some = true;
-        }
-        b += 1;
+    for b in from..to {
+        some |= note_label(image[b], keys[b - from], classes, class, seen, suspects);
     }
     some
 }
@@ -211,11 +190,9 @@ fn mark_suspects(
     ensures { Marking image.now n classes «class» end seen.new suspects.new result }
 {
     let mut any = false;
-    let mut b = 0;
-    while b < end {
-        let to = block_end(b, end);
-        any = mark_block(image, n, b, to, classes, class, any, seen, suspects);
-        b = to;
+    for from in (0..end).step_by(BLOCK) {
+        let to = end.min(from + BLOCK);
+        any = mark_block(image, n, from, to, classes, class, any, seen, suspects);
     }
     any
 }
@@ -261,16 +238,12 @@ fn seek_block(
     ensures { SoughtTo image.now n classes «class» suspects.now to seen.new result }
 {
     let keys = label_keys(image, n, from, to);
-    let mut b = from;
-    while b < to {
-        let tag = image[b];
-        let key = keys[b - from];
-        if seek_label(tag, key, classes, class, suspects, seen) {
+    for b in from..to {
+        if seek_label(image[b], keys[b - from], classes, class, suspects, seen) {
             if is_doubled(image, n, b) {
                 return b;
             }
         }
-        b += 1;
     }
     to
 }
@@ -288,14 +261,12 @@ fn first_found(
     requires { (image_fits n (length image.now) ≡ true) × (end ≤ n) × (0 < classes) × (length suspects.now ≡ 16384) × (length seen.old ≡ 16384) × (Suspected image.now n end classes «class» suspects.now true) }
     ensures { (FirstOfClass image.now n end classes «class» result) × (length seen.new ≡ 16384) }
 {
-    let mut b = 0;
-    while b < end {
-        let to = block_end(b, end);
-        let r = seek_block(image, n, b, to, classes, class, suspects, seen);
+    for from in (0..end).step_by(BLOCK) {
+        let to = end.min(from + BLOCK);
+        let r = seek_block(image, n, from, to, classes, class, suspects, seen);
         if r < to {
             return r;
         }
-        b = to;
     }
     end
 }
@@ -334,10 +305,8 @@ fn first_of_classes(
     ensures { FirstDoubled image.now n result }
 {
     let mut first = n;
-    let mut class = 0;
-    while class < classes {
+    for class in 0..classes {
         first = first_of_class(image, n, first, classes, class, seen, suspects);
-        class += 1;
     }
     first
 }
@@ -358,12 +327,10 @@ fn first_by_search(image: &[u8], n: usize) -> usize
     requires { image_fits n (length image.now) ≡ true }
     ensures { FirstDoubled image.now n result }
 {
-    let mut b = 0;
-    while b < n {
+    for b in 0..n {
         if is_doubled(image, n, b) {
             return b;
         }
-        b += 1;
     }
     n
 }

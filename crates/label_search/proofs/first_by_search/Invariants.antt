@@ -1,10 +1,7 @@
 -- At the head of the loop no bucket so far is doubled. Assumes nothing.
-use Rattle.std.proofs.Common.{◌≡◌, false, ℕ, ◌-◌, ◌≤◌, ◌<◌}
+use Rattle.std.proofs.Common.{◌≡◌, false, ℕ, ◌<◌}
 use Rattle.label_search.specs.Labels.{doubled}
 use Rattle.label_search.proofs.first_by_search.Given as goal
 
 abbrev pub invariant-loop-b : goal.invariant-loop-b
-invariant-loop-b l = (l.b ≤ l.n) × ((j : ℕ) → j < l.b → doubled l.image l.n j ≡ false)
-
-abbrev pub decreases-loop-b : goal.decreases-loop-b
-decreases-loop-b l = l.n - l.b
+invariant-loop-b l = (j : ℕ) → j < l.b → doubled l.image l.n j ≡ false

@@ -1,10 +1,6 @@
 -- At the head of the loop the keys so far are those of the labels. Assumes nothing.
-use Rattle.std.proofs.Common.{◌-◌, ◌≤◌}
 use Rattle.label_search.specs.InnerFilter.{KeysOf}
 use Rattle.label_search.proofs.label_keys.Given as goal
 
 abbrev pub invariant-loop-b : goal.invariant-loop-b
-invariant-loop-b l = (l.from ≤ l.b) × (l.b ≤ l.to) × KeysOf l.image l.n l.from l.b l.keys
-
-abbrev pub decreases-loop-b : goal.decreases-loop-b
-decreases-loop-b l = l.to - l.b
+invariant-loop-b l = KeysOf l.image l.n l.from l.b l.keys

@@ -23,7 +23,7 @@ module _ (img : List ℕ) (n b : ℕ) (fits : image_fits n (length img) ≡ true
       ap₂ same_bytes (sym (end_read img n j y (image_fits_facts n (length img) fits).1 (omega (arith, l, less)) e)) (sym label_is) ∙ sym q ∙ d
 
 pub loop-j-init : goal.loop-j-init
-loop-j-init c = let a = c.args in (omega arith, labelled_none a.image.now a.n (page_end a.image.now a.n a.b))
+loop-j-init c = let a = c.args in labelled_none a.image.now a.n (page_end a.image.now a.n a.b)
 
 pub returns-then-ends_in : goal.returns-then-ends_in
 returns-then-ends_in c =
@@ -40,14 +40,12 @@ loop-j-preserved c =
     let j = c.loop-j.j in
     let l = page_end a.image.now a.n a.b in
     let other = same_bytes (page_end a.image.now a.n j) l in
-    let here = c.is_full.ensures in (
-      omega (arith, c.loop-j-test.true),
-      labelled_next a.image.now a.n l j
-          ∙ ap₂ ◌||◌ c.loop-j.invariant.1
-          (elim c.if-is_full.branch [
-            | then-is_full+else-ends_in w ↦ ap₂ ◌&&◌ (sym here ∙ w.if-is_full.true)
-                (compared a.image.now a.n a.b c.requires.0 c.requires.1 c.page_start.result c.page_start.ensures c.block_32-label.result c.block_32-label.ensures
-                j w.page_start-then-is_full.result w.ends_in.result false c.loop-j-test.true w.page_start-then-is_full.ensures w.ends_in.ensures w.if-ends_in.false)
-            | else-is_full w ↦ ap (λ (t : Bool). t && other) (sym here ∙ w.if-is_full.false)
-          ]),
-    )
+    let here = c.is_full.ensures in
+    labelled_next a.image.now a.n l j
+    ∙ ap₂ ◌||◌ c.loop-j.invariant
+    (elim c.if-is_full.branch [
+      | then-is_full+else-ends_in w ↦ ap₂ ◌&&◌ (sym here ∙ w.if-is_full.true)
+          (compared a.image.now a.n a.b c.requires.0 c.requires.1 c.page_start.result c.page_start.ensures c.block_32-label.result c.block_32-label.ensures
+          j w.page_start-then-is_full.result w.ends_in.result false c.loop-j-test.true w.page_start-then-is_full.ensures w.ends_in.ensures w.if-ends_in.false)
+      | else-is_full w ↦ ap (λ (t : Bool). t && other) (sym here ∙ w.if-is_full.false)
+    ])

@@ -1,11 +1,8 @@
 -- At the head of the loop no bucket so far has the label. Assumes nothing.
-use Rattle.std.proofs.Common.{◌≡◌, false, ◌-◌, ◌≤◌}
+use Rattle.std.proofs.Common.{◌≡◌, false}
 use Rattle.probe.specs.Path.{page_end}
 use Rattle.label_search.specs.Labels.{labelled}
 use Rattle.label_search.proofs.search_label.Given as goal
 
 abbrev pub invariant-loop-j : goal.invariant-loop-j
-invariant-loop-j l = (l.j ≤ l.b) × (labelled l.image l.n (page_end l.image l.n l.b) l.j ≡ false)
-
-abbrev pub decreases-loop-j : goal.decreases-loop-j
-decreases-loop-j l = l.b - l.j
+invariant-loop-j l = labelled l.image l.n (page_end l.image l.n l.b) l.j ≡ false

@@ -1,5 +1,5 @@
 -- A bucket more of the second pass. Assumes nothing.
-use Rattle.std.proofs.Common.{◌≡◌, sym, ◌∙◌, arith, true, false, ◌-◌, get_or}
+use Rattle.std.proofs.Common.{◌≡◌, sym, ◌∙◌, true, false, ◌-◌, get_or}
 use mathlib.Core.Bool.{true≢false}
 use Rattle.label_search.specs.Labels.{doubled}
 use Rattle.label_search.proofs.Passes.{seek_turn}
@@ -17,8 +17,5 @@ loop-b-preserved c =
     elim c.if-seek_label.branch [
       | then-seek_label+else-is_doubled w ↦ λ q. sym w.is_doubled.ensures ∙ w.if-is_doubled.false
       | else-seek_label w ↦ λ q. absurd (true≢false (sym q ∙ w.if-seek_label.false))
-    ] in (
-      omega (arith, l.invariant.0),
-      omega (arith, c.loop-b-test.true),
-      seek_turn a.image.now a.n a.classes a.class l.b key (keys.ensures.1 l.b l.invariant.0 c.loop-b-test.true) a.to a.suspects.now l.seen c.seek_label.new.seen r c.requires.6 c.loop-b-test.true l.invariant.2 c.seek_label.ensures searched,
-    )
+    ] in
+    seek_turn a.image.now a.n a.classes a.class l.b key (keys.ensures.1 l.b l.auto.b c.loop-b-test.true) a.to a.suspects.now l.seen c.seek_label.new.seen r c.requires.6 c.loop-b-test.true l.invariant c.seek_label.ensures searched

@@ -1,10 +1,6 @@
 -- At the head of the loop the pass is at bucket b, whose key was read before. Assumes nothing.
-use Rattle.std.proofs.Common.{◌-◌, ◌≤◌}
 use Rattle.label_search.specs.InnerFilter.{Seeking}
 use Rattle.label_search.proofs.seek_block.Given as goal
 
 abbrev pub invariant-loop-b : goal.invariant-loop-b
-invariant-loop-b l = (l.from ≤ l.b) × (l.b ≤ l.to) × Seeking l.image l.n l.classes l.class l.suspects l.b l.seen
-
-abbrev pub decreases-loop-b : goal.decreases-loop-b
-decreases-loop-b l = l.to - l.b
+invariant-loop-b l = Seeking l.image l.n l.classes l.class l.suspects l.b l.seen
