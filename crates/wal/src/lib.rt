@@ -55,8 +55,8 @@ pub enum AfterEnd {
     Tolerant,
 }
 
-// Where a writer stands: not begun, open at a position of a log of an edition, or finished with a length. It goes
-// by value; the log is lent at each call.
+// Where a writer stands: not begun, open at a position of a log of an edition, or finished with a length. It is
+// lent at each call, as the log is.
 #[derive(Clone, Copy)]
 pub enum Writer {
     Fresh,

@@ -1,16 +1,13 @@
 -- What each call answers, test by test, and what a refused and an accepted call leave. Assumes nothing.
 use mathlib.Core.Path.{◌≡◌, refl, sym, ap, ap₂, ◌∙◌}
 use mathlib.Core.Bool.{Bool, true, false, cond}
-use mathlib.Core.List.{List, [], ◌∷◌}
-use mathlib.Core.Logic.{⊎_elim}
+use mathlib.Core.List.{List}
 use Prim.Native.Nat.{ℕ, ◌+◌, ◌-◌, ◌≤◌, ◌<◌}
 use native.Mathlib.Nat.{lt_of_not-le}
 use native.Mathlib.Decide.{dec_le}
 use native.Mathlib.Omega.{arith}
 use lib.Dec.{leb, eqb}
 use lib.ListN.{length}
-use types.Run.{OneOf}
-use denote.Enum.Declared.{tag_of}
 use borrow.Author.Tests.{le-leb, lt-leb}
 use Rattle.answers.specs.Answers.{Answer, given, refused}
 use Rattle.blocks.specs.Blocks.{put}
@@ -20,7 +17,6 @@ use Rattle.wal.specs.Writer.{open_at, capacity, position, edition_of, if_open, i
 use Rattle.wal.specs.declared.Edition.{Edition}
 use Rattle.wal.specs.declared.Writer.{Writer}
 use Rattle.wal.specs.declared.Writer.TheVariants.{Fresh, Open, Finished}
-use Rattle.wal.specs.contracts.Writer as WriterT
 use Rattle.wal_write.specs.Calls.{page_update_answer}
 
 -- ---- room, tested by differences
@@ -48,7 +44,7 @@ module _ {A : Type 0} where
 
 -- what a `let .. else` tells in its else
 abbrev pub NotOpen : Writer → Type 0
-NotOpen w = OneOf (0 ∷ 2 ∷ []) (tag_of WriterT.the_type w)
+NotOpen w = (at : ℕ) (ed : Edition) → w ≡ open_at ed at → ⊥
 
 module _ {A : Type 0} (log : List ℕ) (w : Writer) (fit bad : Bool) (size : Edition → ℕ) (a : Answer A) where
   pub not_open : NotOpen w → tested log w fit bad size a ≡ refused 12
@@ -56,7 +52,7 @@ module _ {A : Type 0} (log : List ℕ) (w : Writer) (fit bad : Bool) (size : Edi
     where
       go : (v : Writer) → NotOpen v → tested log v fit bad size a ≡ refused 12
       go Fresh o = refl
-      go (Open p ed) o = absurd (⊎_elim (λ (e : 1 ≡ 0). omega arith) (λ (e : 1 ≡ 2). omega arith) o)
+      go (Open p ed) o = absurd (o p ed refl)
       go (Finished n) o = refl
 
   module _ (ed : Edition) (at : ℕ) (o : w ≡ open_at ed at) where

@@ -5,7 +5,9 @@ use mathlib.Core.Bool.{true}
 use mathlib.Core.List.{List, [], ◌∷◌, ◌++◌}
 use Prim.Native.Nat.{ℕ}
 use lib.ListN.{take}
-use Rattle.answers.specs.Answers.{given, accepted, outcome_said, number_said}
+use Rattle.std.specs.Prelude.{Result}
+use Rattle.answers.specs.Answers.{given, accepted, answer_of}
+use Rattle.answers.specs.declared.Refusal.{Refusal}
 use Rattle.wal.specs.Log.{Entry, clear, update, finished_length}
 use Rattle.wal.specs.Reader.{edition_at, start_of, seed_of, read_log}
 use Rattle.wal.specs.Run.{Run, begun, with_clear, end_of, log_of}
@@ -15,42 +17,40 @@ use Rattle.wal.specs.declared.Start.{Start}
 use Rattle.wal.specs.declared.Writer.{Writer}
 use Rattle.wal.proofs.RoundTrip.{edition_back, start_back, seed_back, run_made, finish_fits, finished_log, round_trip}
 use Rattle.wal_write.specs.Calls.{Begins, Clears, Updates, UpdatesPage, Finishes, page_update}
-use Rattle.wal_write.specs.declared.Written.{Written}
-use Rattle.wal_write.specs.declared.FinishedAnswer.{FinishedAnswer}
 use Rattle.wal_write.proofs.PageUpdates.{run_update, run_page}
 
--- a call that answered r and left the log out was accepted
-abbrev Taken : Written → Type 0
-Taken r = accepted (outcome_said r.outcome) ≡ true
+-- a call that answered r was accepted
+abbrev Taken : Result (Unit {0}) Refusal → Type 0
+Taken r = accepted (answer_of r) ≡ true
 
-pub after_begin : (log : List ℕ) (w : Writer) (start : Start) (r : Written) (out : List ℕ) → Begins log w start r out → Taken r → Run log start r.writer out []
-after_begin log w start r out p ok =
-    subst₂ (λ (v : Writer) (l : List ℕ). Run log start v l []) (sym p.1.0) (sym p.1.1) (begun w p.2 (ap accepted (sym p.0) ∙ ok))
+pub after_begin : (log : List ℕ) (w : Writer) (start : Start) (r : Result (Unit {0}) Refusal) (v : Writer) (out : List ℕ) → Begins log w start r v out → Taken r → Run log start v out []
+after_begin log w start r v out p ok =
+    subst₂ (λ (x : Writer) (l : List ℕ). Run log start x l []) (sym p.1.0) (sym p.1.1) (begun w p.2 (ap accepted (sym p.0) ∙ ok))
 
 module _ (log₀ : List ℕ) (start : Start) (w : Writer) (log : List ℕ) (es : List Entry) (run : Run log₀ start w log es) where
-  module _ (r : Written) (out : List ℕ) where
-    pub after_clear : (b : ℕ) → Clears log w b r out → Taken r → Run log₀ start r.writer out (es ++ (clear b ∷ []))
+  module _ (r : Result (Unit {0}) Refusal) (v : Writer) (out : List ℕ) where
+    pub after_clear : (b : ℕ) → Clears log w b r v out → Taken r → Run log₀ start v out (es ++ (clear b ∷ []))
     after_clear b p ok =
-        subst₂ (λ (v : Writer) (l : List ℕ). Run log₀ start v l (es ++ (clear b ∷ []))) (sym p.1.0) (sym p.1.1) (with_clear w log es b run p.2 (ap accepted (sym p.0) ∙ ok))
+        subst₂ (λ (x : Writer) (l : List ℕ). Run log₀ start x l (es ++ (clear b ∷ []))) (sym p.1.0) (sym p.1.1) (with_clear w log es b run p.2 (ap accepted (sym p.0) ∙ ok))
 
-    pub after_update : (id ws : List ℕ) (nodes : List (List ℕ)) (held : ℕ) (elided : List ℕ) (b : ℕ) → Updates log w id ws nodes held elided b r out → Taken r
-        → Run log₀ start r.writer out (es ++ (update id ws (take held nodes) elided b ∷ []))
+    pub after_update : (id ws : List ℕ) (nodes : List (List ℕ)) (held : ℕ) (elided : List ℕ) (b : ℕ) → Updates log w id ws nodes held elided b r v out → Taken r
+        → Run log₀ start v out (es ++ (update id ws (take held nodes) elided b ∷ []))
     after_update id ws nodes held elided b p ok =
         let yes-taken = ap accepted (sym p.0) ∙ ok in
-        subst₂ (λ (v : Writer) (l : List ℕ). Run log₀ start v l (es ++ (update id ws (take held nodes) elided b ∷ []))) (sym p.1.0) (sym p.1.1)
+        subst₂ (λ (x : Writer) (l : List ℕ). Run log₀ start x l (es ++ (update id ws (take held nodes) elided b ∷ []))) (sym p.1.0) (sym p.1.1)
         (run_update id ws nodes held elided b p.2 (p.3 yes-taken) log₀ start w log es run yes-taken)
 
-    pub after_page_update : (id ws page : List ℕ) (b : ℕ) → UpdatesPage log w id ws page b r out → Taken r → Run log₀ start r.writer out (es ++ (page_update id ws page b ∷ []))
+    pub after_page_update : (id ws page : List ℕ) (b : ℕ) → UpdatesPage log w id ws page b r v out → Taken r → Run log₀ start v out (es ++ (page_update id ws page b ∷ []))
     after_page_update id ws page b p ok =
-        subst₂ (λ (v : Writer) (l : List ℕ). Run log₀ start v l (es ++ (page_update id ws page b ∷ []))) (sym p.1.0) (sym p.1.1)
+        subst₂ (λ (x : Writer) (l : List ℕ). Run log₀ start x l (es ++ (page_update id ws page b ∷ []))) (sym p.1.0) (sym p.1.1)
         (run_page id ws page b p.2 log₀ start w log es run (ap accepted (sym p.0) ∙ ok))
 
   -- finish is then given, and its log starts the slice and reads back, by its own edition, as the sync number and exactly the entries written
-  module _ (r : FinishedAnswer) (out : List ℕ) (p : Finishes log w r out) where
+  module _ (r : Result ℕ Refusal) (v : Writer) (out : List ℕ) (p : Finishes log w r v out) where
     abbrev pub len : ℕ
     len = finished_length start.edition (end_of start es)
 
-    pub after_finish : number_said r.answer ≡ given len
+    pub after_finish : answer_of r ≡ given len
     after_finish = p.0 ∙ finish_fits log₀ start w log es run
 
     pub whole_log : take len out ≡ log_of start es

@@ -9,8 +9,10 @@ use native.Mathlib.Omega.{arith}
 use lib.Dec.{leb, eqb}
 use lib.ListN.{length, get_or, replicate, length-append, length-replicate}
 use borrow.Author.Tests.{le-leb, leb-true}
-use Rattle.answers.specs.Answers.{Answer, given, refused, accepted, outcome_said, number_said}
-use Rattle.answers.proofs.Laws.{outcome_one, number_one}
+use Rattle.std.specs.Prelude.{Result}
+use Rattle.answers.specs.Answers.{Answer, given, refused, accepted, answer_of}
+use Rattle.answers.specs.declared.Refusal.{Refusal}
+use Rattle.answers.proofs.Laws.{answer_one}
 use Rattle.blocks.specs.Blocks.{put}
 use Rattle.blocks.proofs.Laws.{put_left, put_right, put-length}
 use Rattle.page_diff.specs.Diff.{count_of, reserved}
@@ -25,8 +27,6 @@ use Rattle.wal.specs.declared.Writer.TheVariants.{Fresh, Open, Finished}
 use Rattle.wal.proofs.Records.{mark-length, clear-length, update-length}
 use Rattle.wal.proofs.RoundTrip.{same_capacity, start-length}
 use Rattle.wal_write.specs.Calls.{clear_writer, clear_log, update_writer, page_update_answer, page_update_writer}
-use Rattle.wal_write.specs.declared.Written.{Written}
-use Rattle.wal_write.specs.declared.FinishedAnswer.{FinishedAnswer}
 use Rattle.wal_write.proofs.CallLaws.{tested, taken, clear_tests, update_tests, page_tests, finish_tests}
 
 -- ---- an accepted call: the writer was open, and there was room for the record and an end
@@ -135,9 +135,9 @@ finish_outside log w i h =
     let long : length (end_record ed (position w)) ≡ mark_size ed + n = length-append (mark ed 2) (replicate n 0) ∙ ap₂ (λ (j k : ℕ). j + k) (mark-length ed 2) (length-replicate {A = ℕ} n 0) in
     outside_sized (finish_answer log w) log (position w) (end_record ed (position w)) (mark_size ed + n) long i (⊎_elim (λ l. inl l) (λ l. inr (omega arith)) h)
 
--- ---- two answers that a contract allows for one input are equal
-pub written_one : (a b : Written) → outcome_said a.outcome ≡ outcome_said b.outcome → a.writer ≡ b.writer → a ≡ b
-written_one a b e f = ap₂ (λ o w. record { outcome = o; writer = w }) (outcome_one a.outcome b.outcome e) f
+-- ---- two answers that a contract allows for one input are equal, and the states after them
+pub written_one : (a b : Result (Unit {0}) Refusal × Writer) → answer_of a.0 ≡ answer_of b.0 → a.1 ≡ b.1 → a ≡ b
+written_one a b e f = ap₂ (λ (r : Result (Unit {0}) Refusal) (w : Writer). (r, w)) (answer_one a.0 b.0 e) f
 
-pub finished_one : (a b : FinishedAnswer) → number_said a.answer ≡ number_said b.answer → a.writer ≡ b.writer → a ≡ b
-finished_one a b e f = ap₂ (λ n w. record { answer = n; writer = w }) (number_one a.answer b.answer e) f
+pub finished_one : (a b : Result ℕ Refusal × Writer) → answer_of a.0 ≡ answer_of b.0 → a.1 ≡ b.1 → a ≡ b
+finished_one a b e f = ap₂ (λ (r : Result ℕ Refusal) (w : Writer). (r, w)) (answer_one a.0 b.0 e) f

@@ -1,7 +1,8 @@
 -- 01, 'Writer': the state and the log after each call that writes a record, and the call that is lent a page; what each call promises.
 -- Assumes nothing.
-use Rattle.std.specs.Prelude.{◌≡◌, Bool, true, cond, List, map, ℕ, ◌+◌, ◌*◌, ◌/◌, ◌^◌, ◌<◌, leb, eqb, length, take}
-use Rattle.answers.specs.Answers.{Answer, given, refused, accepted, outcome_said, number_said}
+use Rattle.std.specs.Prelude.{◌≡◌, Bool, true, cond, List, map, ℕ, ◌+◌, ◌*◌, ◌/◌, ◌^◌, ◌<◌, leb, eqb, length, take, Result}
+use Rattle.answers.specs.Answers.{Answer, given, refused, accepted, answer_of}
+use Rattle.answers.specs.declared.Refusal.{Refusal}
 use Rattle.blocks.specs.Blocks.{block}
 use Rattle.page_diff.specs.Diff.{slots, count_of, reserved}
 use Rattle.page_diff.specs.Pack.{node_at}
@@ -10,8 +11,6 @@ use Rattle.wal.specs.Writer.{position, edition_of, if_open, if_room, begin_answe
 use Rattle.wal.specs.Run.{WideStart, Wide, Rows}
 use Rattle.wal.specs.declared.Start.{Start}
 use Rattle.wal.specs.declared.Writer.{Writer}
-use Rattle.wal_write.specs.declared.Written.{Written}
-use Rattle.wal_write.specs.declared.FinishedAnswer.{FinishedAnswer}
 
 -- the test of `if_room`, of a log's length and the bytes after the record's mark: "exactly when position + size + 1 is at most capacity"
 abbrev pub room_in : ℕ → Writer → ℕ → Bool
@@ -50,29 +49,29 @@ abbrev pub page_update_log : List ℕ → Writer → List ℕ → List ℕ → L
 page_update_log log w id ws page b =
     record_log (page_update_answer log w ws page) log w (record_of (edition_of w) (page_update id ws page b))
 
--- ---- what each call promises, of the log lent, the state, what else it is given, its answer r and the log afterwards: the answer, the state
--- and the log by the definitions above, and then the widths that its types give
-abbrev pub Begins : List ℕ → Writer → Start → Written → List ℕ → Type 0
-Begins log w start r out =
-    (outcome_said r.outcome ≡ begin_answer log) × ((r.writer ≡ begin_writer log w start.edition) × (out ≡ begin_log log start)) × WideStart start
+-- ---- what each call promises, of the log lent, the state, what else it is given, its answer r, the state v and the log afterwards: the
+-- answer, the state and the log by the definitions above, and then the widths that its types give
+abbrev pub Begins : List ℕ → Writer → Start → Result (Unit {0}) Refusal → Writer → List ℕ → Type 0
+Begins log w start r v out =
+    (answer_of r ≡ begin_answer log) × ((v ≡ begin_writer log w start.edition) × (out ≡ begin_log log start)) × WideStart start
 
-abbrev pub Clears : List ℕ → Writer → ℕ → Written → List ℕ → Type 0
-Clears log w b r out =
-    (outcome_said r.outcome ≡ clear_answer log w) × ((r.writer ≡ clear_writer log w) × (out ≡ clear_log log w b)) × (b < 2 ^ 64)
+abbrev pub Clears : List ℕ → Writer → ℕ → Result (Unit {0}) Refusal → Writer → List ℕ → Type 0
+Clears log w b r v out =
+    (answer_of r ≡ clear_answer log w) × ((v ≡ clear_writer log w) × (out ≡ clear_log log w b)) × (b < 2 ^ 64)
 
 -- the nodes that an accepted update takes out of a table are nodes
-abbrev pub Updates : List ℕ → Writer → List ℕ → List ℕ → List (List ℕ) → ℕ → List ℕ → ℕ → Written → List ℕ → Type 0
-Updates log w id ws nodes held elided b r out =
-    (outcome_said r.outcome ≡ update_answer log w ws held)
-    × ((r.writer ≡ update_writer log w ws held) × (out ≡ update_log log w id ws nodes held elided b))
+abbrev pub Updates : List ℕ → Writer → List ℕ → List ℕ → List (List ℕ) → ℕ → List ℕ → ℕ → Result (Unit {0}) Refusal → Writer → List ℕ → Type 0
+Updates log w id ws nodes held elided b r v out =
+    (answer_of r ≡ update_answer log w ws held)
+    × ((v ≡ update_writer log w ws held) × (out ≡ update_log log w id ws nodes held elided b))
     × Wide id ws elided b
     × (accepted (update_answer log w ws held) ≡ true → Rows nodes held)
 
-abbrev pub UpdatesPage : List ℕ → Writer → List ℕ → List ℕ → List ℕ → ℕ → Written → List ℕ → Type 0
-UpdatesPage log w id ws page b r out =
-    (outcome_said r.outcome ≡ page_update_answer log w ws page)
-    × ((r.writer ≡ page_update_writer log w ws page) × (out ≡ page_update_log log w id ws page b))
+abbrev pub UpdatesPage : List ℕ → Writer → List ℕ → List ℕ → List ℕ → ℕ → Result (Unit {0}) Refusal → Writer → List ℕ → Type 0
+UpdatesPage log w id ws page b r v out =
+    (answer_of r ≡ page_update_answer log w ws page)
+    × ((v ≡ page_update_writer log w ws page) × (out ≡ page_update_log log w id ws page b))
     × Wide id ws (block 8 page 4056) b
 
-abbrev pub Finishes : List ℕ → Writer → FinishedAnswer → List ℕ → Type 0
-Finishes log w r out = (number_said r.answer ≡ finish_answer log w) × ((r.writer ≡ finish_writer log w) × (out ≡ finish_log log w))
+abbrev pub Finishes : List ℕ → Writer → Result ℕ Refusal → Writer → List ℕ → Type 0
+Finishes log w r v out = (answer_of r ≡ finish_answer log w) × ((v ≡ finish_writer log w) × (out ≡ finish_log log w))

@@ -1,37 +1,21 @@
-// The write path of a log, as the original's wal/write.rs. The state goes by value and the log is lent
-// at each call; a refused call leaves both as they were. A position is compared with what the slice has
+// The write path of a log, as the original's wal/write.rs. The state and the log are lent at each call; a
+// refused call leaves both as they were. A position is compared with what the slice has
 // left, so no sum wraps on one that no call answered.
 #![tactic(auto)]
 
 ghost use Rattle.std.specs.Prelude.{◌≡◌, ◌++◌, ◌+◌, ◌*◌, ◌/◌, ◌≤◌, leb, length, take};
-ghost use Rattle.answers.specs.Refusals.{number_of};
-ghost use Rattle.answers.specs.Answers.{refused, outcome_said};
 ghost use Rattle.blocks.specs.Blocks.{bytes_of, put, flat};
 ghost use Rattle.page_diff.specs.Diff.{bytes_of_words};
 ghost use Rattle.wal.specs.Log.{clear, mark, mark_size, start_record, record_of, clear_size};
 ghost use Rattle.wal.specs.Run.{Rows, WideStart};
 ghost use Rattle.wal_write.specs.Calls.{room_in, Begins, Clears, Updates, UpdatesPage, Finishes};
 
-use answers::{Number, Outcome, Refusal};
+use answers::Refusal;
 use page_diff::Diff;
 use wal::{Edition, Start, Writer};
 
 // The bytes of an update after its nodes.
 const TAIL_SIZE: usize = 16;
-
-// What a call answers, and the state after it.
-#[derive(Clone, Copy)]
-pub struct Written {
-    pub outcome: Outcome,
-    pub writer: Writer,
-}
-
-// What finish answers, the length of the log, and the state after it.
-#[derive(Clone, Copy)]
-pub struct FinishedAnswer {
-    pub answer: Number,
-    pub writer: Writer,
-}
 
 // Whether `size` bytes from `at` on, and `mark` more for the end after them, fit the whole pages of a log.
 fn room_at(log_len: usize, at: usize, size: usize, mark: usize) -> bool
@@ -57,16 +41,6 @@ pub fn has_room(log_len: usize, w: Writer, body: usize) -> bool
         Writer::Fresh => room_at(log_len, 0, body, 2),
         Writer::Open(at, edition) => room_at(log_len, at, body, 2 * wal::mark_size(edition)),
         Writer::Finished(_) => room_at(log_len, 0, body, 2),
-    }
-}
-
-// A refused call keeps the state.
-fn kept(w: Writer, why: Refusal) -> Written
-    ensures { (outcome_said result.outcome ≡ refused (number_of why)) × (result.writer ≡ w) }
-{
-    Written {
-        outcome: Outcome::Refused(why),
-        writer: w,
     }
 }
 
@@ -99,18 +73,16 @@ fn put_start(log: &mut [u8], start: Start)
 }
 
 // Starts a log of an edition, in any state: the start record at the front of a slice that holds a page, else 13.
-pub fn begin(log: &mut [u8], w: Writer, start: Start) -> Written
-    ensures { Begins log.old w start result log.new }
+pub fn begin(log: &mut [u8], w: &mut Writer, start: Start) -> Result<(), Refusal>
+    ensures { Begins log.old w.old start result w.new log.new }
 {
     if log.len() < wal::PAGE_SIZE {
-        return kept(w, Refusal::NoRoom);
+        return Err(Refusal::NoRoom);
     }
     let edition = start.edition;
     put_start(log, start);
-    Written {
-        outcome: Outcome::Done,
-        writer: Writer::Open(wal::start_size(edition), edition),
-    }
+    *w = Writer::Open(wal::start_size(edition), edition);
+    Ok(())
 }
 
 // The bytes of a clear.
@@ -123,22 +95,20 @@ fn put_clear(log: &mut [u8], at: usize, edition: Edition, bucket: u64)
 }
 
 // Writes a clear of any bucket number: 12, 13.
-pub fn write_clear(log: &mut [u8], w: Writer, bucket: u64) -> Written
-    ensures { Clears log.old w bucket result log.new }
+pub fn write_clear(log: &mut [u8], w: &mut Writer, bucket: u64) -> Result<(), Refusal>
+    ensures { Clears log.old w.old bucket result w.new log.new }
 {
-    let Writer::Open(at, edition) = w else {
-        return kept(w, Refusal::WriterNotOpen);
+    let Writer::Open(at, edition) = *w else {
+        return Err(Refusal::WriterNotOpen);
     };
     let mark = wal::mark_size(edition);
     let size = mark + wal::CLEAR_BODY;
     if !room_at(log.len(), at, size, mark) {
-        return kept(w, Refusal::NoRoom);
+        return Err(Refusal::NoRoom);
     }
     put_clear(log, at, edition, bucket);
-    Written {
-        outcome: Outcome::Done,
-        writer: Writer::Open(at + size, edition),
-    }
+    *w = Writer::Open(at + size, edition);
+    Ok(())
 }
 
 // The bytes of an update before its nodes: mark, id, diff.
@@ -179,15 +149,15 @@ fn put_tail(log: &mut [u8], at: usize, elided: [u8; 8], bucket: u64)
 // 4, 13. Entries past the count are not looked at.
 pub fn write_update(
     log: &mut [u8],
-    w: Writer,
+    w: &mut Writer,
     id: [u8; 32],
     d: Diff,
     nodes: [[u8; 32]; 126],
     held: usize,
     elided: [u8; 8],
     bucket: u64,
-) -> Written
-    ensures { Updates log.old w id d.words nodes held elided bucket result log.new }
+) -> Result<(), Refusal>
+    ensures { Updates log.old w.old id d.words nodes held elided bucket result w.new log.new }
 {
     write_lent_update(log, w, id, d, &nodes, held, elided, bucket)
 }
@@ -195,65 +165,63 @@ pub fn write_update(
 // The same of a lent table, so that none is moved.
 pub fn write_lent_update(
     log: &mut [u8],
-    w: Writer,
+    w: &mut Writer,
     id: [u8; 32],
     d: Diff,
     nodes: &[[u8; 32]; 126],
     held: usize,
     elided: [u8; 8],
     bucket: u64,
-) -> Written
-    ensures { Updates log.old w id d.words nodes.now held elided bucket result log.new }
+) -> Result<(), Refusal>
+    ensures { Updates log.old w.old id d.words nodes.now held elided bucket result w.new log.new }
 {
-    let Writer::Open(at, edition) = w else {
-        return kept(w, Refusal::WriterNotOpen);
+    let Writer::Open(at, edition) = *w else {
+        return Err(Refusal::WriterNotOpen);
     };
     if page_diff::count(d) != held {
-        return kept(w, Refusal::LengthUnfit);
+        return Err(Refusal::LengthUnfit);
     }
     if page_diff::is_reserved(d) {
-        return kept(w, Refusal::DiffReserved);
+        return Err(Refusal::DiffReserved);
     }
     let mark = wal::mark_size(edition);
     let size = mark + (wal::UPDATE_BODY + 32 * held);
     if !room_at(log.len(), at, size, mark) {
-        return kept(w, Refusal::NoRoom);
+        return Err(Refusal::NoRoom);
     }
     let body = at + mark;
     put_head(log, at, edition, id, d);
     put_nodes(log, body + wal::NODES_AT, nodes, held);
     put_tail(log, at + (size - TAIL_SIZE), elided, bucket);
-    Written {
-        outcome: Outcome::Done,
-        writer: Writer::Open(at + size, edition),
-    }
+    *w = Writer::Open(at + size, edition);
+    Ok(())
 }
 
 // Writes the update of a page, with the marked nodes and the elided children that stand in it: 12, 2
 // where it is not 4,096 bytes, 4, 13. It is `write_update` of what is packed, and builds no table.
 pub fn write_page_update(
     log: &mut [u8],
-    w: Writer,
+    w: &mut Writer,
     id: [u8; 32],
     d: Diff,
     page: &[u8],
     bucket: u64,
-) -> Written
-    ensures { UpdatesPage log.old w id d.words page.now bucket result log.new }
+) -> Result<(), Refusal>
+    ensures { UpdatesPage log.old w.old id d.words page.now bucket result w.new log.new }
 {
-    let Writer::Open(at, edition) = w else {
-        return kept(w, Refusal::WriterNotOpen);
+    let Writer::Open(at, edition) = *w else {
+        return Err(Refusal::WriterNotOpen);
     };
     if page.len() != wal::PAGE_SIZE {
-        return kept(w, Refusal::LengthUnfit);
+        return Err(Refusal::LengthUnfit);
     }
     if page_diff::is_reserved(d) {
-        return kept(w, Refusal::DiffReserved);
+        return Err(Refusal::DiffReserved);
     }
     let mark = wal::mark_size(edition);
     let size = mark + (wal::UPDATE_BODY + 32 * page_diff::count(d));
     if !room_at(log.len(), at, size, mark) {
-        return kept(w, Refusal::NoRoom);
+        return Err(Refusal::NoRoom);
     }
     let body = at + mark;
     put_head(log, at, edition, id, d);
@@ -264,36 +232,26 @@ pub fn write_page_update(
         blocks::block_8(page, page_diff::ELIDED_AT),
         bucket,
     );
-    Written {
-        outcome: Outcome::Done,
-        writer: Writer::Open(at + size, edition),
-    }
+    *w = Writer::Open(at + size, edition);
+    Ok(())
 }
 
 // Ends the log, with zeros up to the next page, and answers its length: 12, 13. The slice past that
 // length stays as it is.
-pub fn finish(log: &mut [u8], w: Writer) -> FinishedAnswer
-    ensures { Finishes log.old w result log.new }
+pub fn finish(log: &mut [u8], w: &mut Writer) -> Result<u64, Refusal>
+    ensures { Finishes log.old w.old result w.new log.new }
 {
-    let Writer::Open(at, edition) = w else {
-        return FinishedAnswer {
-            answer: Number::Refused(Refusal::WriterNotOpen),
-            writer: w,
-        };
+    let Writer::Open(at, edition) = *w else {
+        return Err(Refusal::WriterNotOpen);
     };
     let mark = wal::mark_size(edition);
     if !room_at(log.len(), at, 0, mark) {
-        return FinishedAnswer {
-            answer: Number::Refused(Refusal::NoRoom),
-            writer: w,
-        };
+        return Err(Refusal::NoRoom);
     }
     let after = at + mark;
     let len = (after + (wal::PAGE_SIZE - 1)) / wal::PAGE_SIZE * wal::PAGE_SIZE;
     put_mark(log, at, edition, wal::WAL_ENTRY_TAG_END);
     blocks::put_zeros(log, after, len - after);
-    FinishedAnswer {
-        answer: Number::Is(len as u64),
-        writer: Writer::Finished(len),
-    }
+    *w = Writer::Finished(len);
+    Ok(len as u64)
 }
