@@ -1,5 +1,5 @@
--- A marker's bytes: the first eight are the magic exactly if they are its number; what is written is read again. Assumes nothing.
-use mathlib.Core.Path.{◌≡◌, refl, sym, ap, ◌∙◌}
+-- A marker's bytes: the test of the first eight; what is written is read again. Assumes nothing.
+use mathlib.Core.Path.{◌≡◌, refl, sym, ◌∙◌}
 use mathlib.Core.Bool.{Bool, true, false}
 use mathlib.Core.List.{List}
 use Prim.Native.Nat.{ℕ, ◌^◌, ◌<◌}
@@ -9,27 +9,20 @@ use lib.ListN.{length, take}
 use borrow.Author.Tests.{lt-leb, eq-eqb, ne_eqb}
 use Rattle.answers.specs.Answers.{given, refused}
 use Rattle.blocks.specs.Blocks.{le, bytes_of, block, same_bytes}
-use Rattle.blocks.proofs.Laws.{AllBytes, block_at, bytes_of-block, le-bytes_of}
+use Rattle.std.specs.Str.{bytes_eq}
+use Rattle.std.proofs.lemmas.Slice.Eq.{bytes_eq-Decides}
+use Rattle.blocks.proofs.Laws.{le-bytes_of}
 use Rattle.blocks.proofs.Same.{same_equal, equal_same}
 use Rattle.rehash.specs.Marker.{magic, counts_of, read_answer, written_marker}
 
--- the magic as a number
-abbrev pub magic_number : ℕ
-magic_number = 0x00314852544D4F4E
-
-module _ (bs : List ℕ) (long : length bs ≡ 16) where
-  first_eight : take 8 bs ≡ block 8 bs 0
-  first_eight = sym (block_at 8 bs 0 (omega arith))
-
-  pub magic_is : AllBytes bs → le (block 8 bs 0) ≡ magic_number → same_bytes (take 8 bs) magic ≡ true
-  magic_is b e = equal_same (take 8 bs) magic (first_eight ∙ sym (bytes_of-block 8 bs 0 b) ∙ ap (bytes_of 8) e)
-
-  pub magic_not : (le (block 8 bs 0) ≡ magic_number → ⊥) → same_bytes (take 8 bs) magic ≡ false
-  magic_not f = go (same_bytes (take 8 bs) magic) refl
-    where
-      go : (t : Bool) → same_bytes (take 8 bs) magic ≡ t → t ≡ false
-      go true e = absurd (f (ap le (sym first_eight ∙ same_equal (take 8 bs) magic e)))
-      go false e = refl
+-- the code's test of the first eight bytes is the definition's, with the sides exchanged
+pub magic_test : (bs : List ℕ) (t : Bool) → t ≡ bytes_eq magic (take 8 bs) → same_bytes (take 8 bs) magic ≡ t
+magic_test bs true e = equal_same (take 8 bs) magic (sym ((bytes_eq-Decides magic (take 8 bs)).0 (sym e)))
+magic_test bs false e = go (same_bytes (take 8 bs) magic) refl
+  where
+    go : (u : Bool) → same_bytes (take 8 bs) magic ≡ u → u ≡ false
+    go true q = sym ((bytes_eq-Decides magic (take 8 bs)).1 (sym (same_equal (take 8 bs) magic q))) ∙ sym e
+    go false q = refl
 
 -- the answer, test by test
 pub read_short : (bs : List ℕ) → (length bs ≡ 16 → ⊥) → read_answer bs ≡ refused 15

@@ -8,7 +8,7 @@ use native.Mathlib.Omega.{arith}
 use lib.Dec.{eqb}
 use lib.ListN.{length, get_or, set, drop, take-append-drop, length-set}
 use lib.Seq.{set-append_left, length-take-le}
-use borrow.Author.Tests.{eq-eqb, ne_eqb, lt-ltb, le-ltb}
+use borrow.Author.Tests.{eq-eqb}
 use Rattle.answers.specs.Answers.{Answer, given, refused, and_then}
 use Rattle.blocks.specs.Blocks.{put}
 use Rattle.blocks.proofs.Laws.{put-length}
@@ -17,7 +17,7 @@ use Rattle.ht_file.proofs.Laws.{both_hold, image_fits_facts}
 use Rattle.meta_map.specs.Tags.{full_tag, is_full}
 use Rattle.probe.specs.Path.{Limit, allocating, allocate_answer}
 use Rattle.probe.proofs.Allocating.{answer_below}
-use Rattle.rehash.specs.Growth.{page_at, stored, zeroed, bucket_moved, grown_to, copied, done, lengths_fit, end_of, growth_answer, image_or, growth_image}
+use Rattle.rehash.specs.Growth.{page_at, stored, zeroed, bucket_moved, grown_to, end_of, image_or}
 
 module _ (n : ℕ) (img : List ℕ) (fits : image_fits n (length img) ≡ true) where
   pub tags_long : length (tags_of n img) ≡ tags_length n
@@ -85,11 +85,3 @@ end_given (refused m) img e = let z : ◌≡◌ {A = ℕ} 0 1 = cc in absurd (om
 pub end_refused : (x : Answer (List ℕ)) (m : ℕ) → refused m ≡ end_of (tt {0}) x → x ≡ refused m
 end_refused (given a) m e = let z : ◌≡◌ {A = ℕ} 0 1 = cc in absurd (omega arith)
 end_refused (refused k) m e = let z : m ≡ k = cc in ap refused (sym z)
-
--- the counts allow a growth: then it goes by the lengths
-module _ (limit : Limit) (old : List ℕ) (old_n : ℕ) (new : List ℕ) (new_n : ℕ) (hashes : List ℕ) (p : count_allowed old_n ≡ true) (q : count_allowed new_n ≡ true) (l : old_n < new_n) where
-  pub copy_by_lengths : (t : Bool) → lengths_fit old old_n new new_n hashes ≡ t
-      → (cond t (end_of done (copied limit old old_n new_n hashes)) (refused 2) ≡ growth_answer limit old old_n new new_n hashes)
-      × (cond t (image_or (zeroed new_n) (copied limit old old_n new_n hashes)) new ≡ growth_image limit old old_n new new_n hashes)
-  copy_by_lengths t e =
-      (rw (p, q, le-ltb new_n old_n (omega arith), ne_eqb new_n old_n (λ d. omega arith), e), rw (p, q, lt-ltb old_n new_n l, e))

@@ -17,25 +17,24 @@ use ht_file::PAGE_SIZE;
 
 const MARKER_LEN: usize = 16;
 
-// "NOMTRH1" and a zero byte, as the number that these bytes are.
-const MARKER_MAGIC: u64 = 0x0031_4852_544D_4F4E;
+const MARKER_MAGIC: [u8; 8] = *b"NOMTRH1\0";
 
 // The bucket counts that a marker names: the table's, and those that it grows to.
-#[derive(Clone, Copy)]
+#[derive(Clone, Copy, Debug, PartialEq, Eq)]
 pub struct Marker {
     pub old: u32,
     pub new: u32,
 }
 
 // What is left to do of a growth: remove its files, or write the new count to the metadata before.
-#[derive(Clone, Copy)]
+#[derive(Clone, Copy, Debug, PartialEq, Eq)]
 pub enum Decision {
     Tidy,
     UpdateMetaThenTidy,
 }
 
 // What the copy did.
-#[derive(Clone, Copy)]
+#[derive(Clone, Copy, Debug, PartialEq, Eq)]
 pub enum Grown {
     Done,
     NothingToDo,
@@ -49,12 +48,11 @@ pub fn write_marker(old: u32, new: u32) -> Result<[u8; 16], Refusal>
     if new <= old {
         return Err(Refusal::MarkerOrder);
     }
-    let o = blocks::u32_bytes(old);
-    let n = blocks::u32_bytes(new);
-    Ok([
-        0x4E, 0x4F, 0x4D, 0x54, 0x52, 0x48, 0x31, 0x00, o[0], o[1], o[2], o[3], n[0], n[1], n[2],
-        n[3],
-    ])
+    let mut bytes = [0; MARKER_LEN];
+    bytes[..8].copy_from_slice(&MARKER_MAGIC);
+    bytes[8..12].copy_from_slice(&old.to_le_bytes());
+    bytes[12..].copy_from_slice(&new.to_le_bytes());
+    Ok(bytes)
 }
 
 // The bucket counts that a marker names.
@@ -64,8 +62,7 @@ pub fn read_marker(bytes: &[u8]) -> Result<Marker, Refusal>
     if bytes.len() != MARKER_LEN {
         return Err(Refusal::MarkerLength);
     }
-    let magic = blocks::read_u64(bytes, 0);
-    if magic != MARKER_MAGIC {
+    if !bytes.starts_with(&MARKER_MAGIC) {
         return Err(Refusal::MarkerMagic);
     }
     let old = blocks::read_u32(bytes, 8);
@@ -85,21 +82,16 @@ pub fn pending(old: u64, new: u64, meta: u64, file_len: u64) -> Result<Decision,
     if new <= old {
         return Err(Refusal::MarkerOrder);
     }
+    let old_len = ht_file::page_start(old as usize, old as usize) as u64;
     let new_len = ht_file::page_start(new as usize, new as usize) as u64;
-    if meta == new {
-        if file_len == new_len {
-            return Ok(Decision::Tidy);
-        }
-        return Err(Refusal::NothingPending);
+    if meta == new && file_len == new_len {
+        return Ok(Decision::Tidy);
     }
-    if meta == old {
-        if file_len == new_len {
-            return Ok(Decision::UpdateMetaThenTidy);
-        }
-        let old_len = ht_file::page_start(old as usize, old as usize) as u64;
-        if file_len == old_len {
-            return Ok(Decision::Tidy);
-        }
+    if meta == old && file_len == new_len {
+        return Ok(Decision::UpdateMetaThenTidy);
+    }
+    if meta == old && file_len == old_len {
+        return Ok(Decision::Tidy);
     }
     Err(Refusal::NothingPending)
 }
@@ -109,11 +101,7 @@ fn copy_page(image: &mut [u8], at: usize, source: &[u8], from: usize)
     requires { (at + 4096 ≤ length image.old) × (from + 4096 ≤ length source.now) }
     ensures { image.new ≡ put image.old at (block 4096 source.now from) }
 {
-    let mut i = 0;
-    while i < PAGE_SIZE {
-        image[at + i] = source[from + i];
-        i += 1;
-    }
+    image[at..at + PAGE_SIZE].copy_from_slice(&source[from..from + PAGE_SIZE]);
 }
 
 // What old bucket b does to the new image: a full one is allocated by its hash and its page copied there;
@@ -152,16 +140,12 @@ fn rehash_to(
     requires { (image_fits old_n (length old_image.now) ≡ true) × (image_fits new_n (length new_image.old) ≡ true) × (length hashes.now ≡ old_n) }
     ensures { (answer_of result ≡ end_of tt (copied hit_limit old_image.now old_n new_n hashes.now)) × (new_image.new ≡ image_or (zeroed new_n) (copied hit_limit old_image.now old_n new_n hashes.now)) }
 {
-    blocks::zero_all(new_image);
-    let mut b = 0;
-    while b < old_n {
-        let hash = hashes[b];
-        let moved = move_bucket(old_image, old_n, b, hash, new_image, new_n);
-        if let Err(why) = moved {
-            blocks::zero_all(new_image);
+    new_image.fill(0);
+    for (b, hash) in hashes.iter().enumerate() {
+        if let Err(why) = move_bucket(old_image, old_n, b, *hash, new_image, new_n) {
+            new_image.fill(0);
             return Err(why);
         }
-        b += 1;
     }
     Ok(())
 }
@@ -185,13 +169,10 @@ pub fn grow(
     if new_n == old_n {
         return Ok(Grown::NothingToDo);
     }
-    if old_image.len() != ht_file::page_start(old_n, old_n) {
-        return Err(Refusal::LengthUnfit);
-    }
-    if new_image.len() != ht_file::page_start(new_n, new_n) {
-        return Err(Refusal::LengthUnfit);
-    }
-    if hashes.len() != old_n {
+    if old_image.len() != ht_file::page_start(old_n, old_n)
+        || new_image.len() != ht_file::page_start(new_n, new_n)
+        || hashes.len() != old_n
+    {
         return Err(Refusal::LengthUnfit);
     }
     rehash_to(old_image, old_n, new_image, new_n, hashes)?;

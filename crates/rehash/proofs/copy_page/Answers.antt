@@ -1,25 +1,17 @@
--- One byte more of the page is put each turn. Assumes nothing.
-use Rattle.std.proofs.Common.{◌≡◌, arith, ℕ, ◌+◌, length, get_or, set}
-use mathlib.Core.Path.{subst}
+-- The part that is written is the page. Assumes nothing.
+use Rattle.std.proofs.Common.{◌≡◌, refl, sym, ap, ◌∙◌, arith, List, ℕ, ◌+◌, ◌-◌, length, take, drop}
+use Rattle.std.proofs.lemmas.Slice.{put_mid-paste}
 use Rattle.blocks.specs.Blocks.{block}
-use Rattle.blocks.proofs.Laws.{block-length, block-get_or}
-use Rattle.blocks.proofs.Copy.{Put, put_turn, put_end_lem}
+use Rattle.blocks.proofs.Laws.{block_at, block-length, put_paste}
 use Rattle.rehash.proofs.copy_page.Goals as goal
-
-pub loop-i-preserved : goal.loop-i-preserved
-loop-i-preserved c =
-    let a = c.args in
-    let image = a.image.now in
-    let page = block 4096 a.source.now a.from in
-    let long : length page ≡ 4096 = block-length 4096 a.source.now a.from in
-    let i = c.loop-i.i in
-    let byte : get_or page i 0 ≡ get_or a.source.now (a.from + i) 0 = block-get_or 4096 a.source.now a.from i (omega arith) (omega arith) in
-    subst (λ (x : ℕ). Put image a.at page (set c.loop-i.image (a.at + i) x) (i + 1)) byte
-    (put_turn image a.at page c.loop-i.image i c.loop-i.invariant (omega arith) (omega arith))
 
 pub returns : goal.returns
 returns c =
     let a = c.args in
-    let page = block 4096 a.source.now a.from in
+    let page : List ℕ = block 4096 a.source.now a.from in
     let long : length page ≡ 4096 = block-length 4096 a.source.now a.from in
-    put_end_lem a.image.now a.at page c.loop-i.image c.loop-i.i c.loop-i.invariant (omega arith) (omega arith)
+    let width : a.from + 4096 - a.from ≡ 4096 = omega arith in
+    let written : c.copy_from_slice.new.self ≡ page =
+    c.copy_from_slice.ensures.after ∙ ap (λ (k : ℕ). take k (drop a.from a.source.now)) width ∙ sym (block_at 4096 a.source.now a.from (omega arith)) in
+    put_mid-paste a.at (a.at + 4096 - a.at) a.image.now c.copy_from_slice.new.self page (length page) written (omega arith) refl
+    ∙ sym (put_paste a.image.now a.at page (omega arith))

@@ -14,8 +14,7 @@ pub loop-b-init : goal.loop-b-init
 loop-b-init c =
     let a = c.args in
     let f = image_fits_facts a.new_n (length a.new_image.now) c.requires.1 in
-    let z : c.zero_all.new.s ≡ zeroed a.new_n = c.zero_all.ensures ∙ ap (λ (k : ℕ). replicate k 0) f.2 in (
-      omega arith,
+    let z : c.fill.new.self ≡ zeroed a.new_n = c.fill.ensures.after (λ y e. e) ∙ ap (λ (k : ℕ). replicate k 0) f.2 in (
       grown_none hit_limit a.old_image.now a.old_n a.new_n a.hashes.now ∙ ap given (sym z),
       ap length z ∙ length-replicate (image_length a.new_n) 0,
     )
@@ -32,10 +31,10 @@ returns-in-Err c =
     let e : copied hit_limit a.old_image.now a.old_n a.new_n a.hashes.now ≡ refused m =
     ap (grown_to hit_limit a.old_image.now a.old_n a.new_n a.hashes.now) (sym d)
     ∙ grown_stop hit_limit a.old_image.now a.old_n a.new_n a.hashes.now (b + 1) m (a.old_n - (b + 1))
-    (grown_next hit_limit a.old_image.now a.old_n a.new_n a.hashes.now b img c.loop-b.invariant.1 ∙ is_refused) in
-    let long : length c.move_bucket-moved.new.new_image ≡ image_length a.new_n = ap length (c.in-Err.ensures.1 ∙ ap (image_or img) is_refused) ∙ c.loop-b.invariant.2 in (
+    (grown_next hit_limit a.old_image.now a.old_n a.new_n a.hashes.now b img c.loop-b.invariant.0 ∙ is_refused) in
+    let long : length c.move_bucket.new.new_image ≡ image_length a.new_n = ap length (c.in-Err.ensures.1 ∙ ap (image_or img) is_refused) ∙ c.loop-b.invariant.1 in (
       sym (ap (end_of tt) e),
-      c.zero_all-in-Err.ensures ∙ ap (λ (k : ℕ). replicate k 0) long ∙ sym (ap (image_or (zeroed a.new_n)) e),
+      c.fill-in-Err.ensures.after (λ y e. e) ∙ ap (λ (k : ℕ). replicate k 0) long ∙ sym (ap (image_or (zeroed a.new_n)) e),
     )
 
 pub loop-b-preserved : goal.loop-b-preserved
@@ -45,7 +44,6 @@ loop-b-preserved c =
     let img = c.loop-b.new_image in
     let x : Answer (List ℕ) = bucket_moved hit_limit a.old_image.now a.old_n a.new_n (get_or a.hashes.now b 0) b img in
     let e : x ≡ given (image_or img x) = end_given x img c.in_default.ensures.0 in (
-      omega (arith, c.loop-b-test.true),
-      grown_next hit_limit a.old_image.now a.old_n a.new_n a.hashes.now b img c.loop-b.invariant.1 ∙ e ∙ ap given (sym c.in_default.ensures.1),
-      ap length c.in_default.ensures.1 ∙ moved_length hit_limit a.old_image.now a.old_n a.new_n (get_or a.hashes.now b 0) b img (image_or img x) e ∙ c.loop-b.invariant.2,
+      grown_next hit_limit a.old_image.now a.old_n a.new_n a.hashes.now b img c.loop-b.invariant.0 ∙ e ∙ ap given (sym c.in_default.ensures.1),
+      ap length c.in_default.ensures.1 ∙ moved_length hit_limit a.old_image.now a.old_n a.new_n (get_or a.hashes.now b 0) b img (image_or img x) e ∙ c.loop-b.invariant.1,
     )

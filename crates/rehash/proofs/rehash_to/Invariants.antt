@@ -1,5 +1,5 @@
 -- At the head of the loop the new image is that of the buckets so far. Assumes nothing.
-use Rattle.std.proofs.Common.{◌≡◌, ◌-◌, ◌≤◌, length}
+use Rattle.std.proofs.Common.{◌≡◌, length}
 use Rattle.answers.specs.Answers.{given}
 use Rattle.ht_file.specs.Places.{image_length}
 use Rattle.probe.specs.Path.{hit_limit}
@@ -8,7 +8,4 @@ use Rattle.rehash.proofs.rehash_to.Given as goal
 
 abbrev pub invariant-loop-b : goal.invariant-loop-b
 invariant-loop-b l =
-    (l.b ≤ l.old_n) × (grown_to hit_limit l.old_image l.old_n l.new_n l.hashes l.b ≡ given l.new_image) × (length l.new_image ≡ image_length l.new_n)
-
-abbrev pub decreases-loop-b : goal.decreases-loop-b
-decreases-loop-b l = l.old_n - l.b
+    (grown_to hit_limit l.old_image l.old_n l.new_n l.hashes l.b ≡ given l.new_image) × (length l.new_image ≡ image_length l.new_n)
