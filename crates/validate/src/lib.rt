@@ -38,16 +38,14 @@ fn ensure_bucket_reachable(image: &[u8], n: usize, hash: u64, b: usize) -> Resul
     ensures { answer_of result ≡ reaching image.now n hash b }
 {
     let mut bucket = (hash % n as u64) as usize;
-    let mut k = 0;
-    while k < n {
+    for k in 0..n {
         if bucket == b {
             return Ok(());
         }
         if image[bucket] == EMPTY {
             return Err(Refusal::EmptyFirst);
         }
-        k += 1;
-        bucket += k;
+        bucket += k + 1;
         if n <= bucket {
             bucket -= n;
         }
@@ -75,11 +73,8 @@ fn check_buckets(image: &[u8], n: usize, hashes: &[u64], end: usize) -> Result<(
     requires { (image_fits n (length image.now) ≡ true) × (length hashes.now ≡ n) × (end ≤ n) }
     ensures { answer_of result ≡ paths_to image.now n hashes.now end }
 {
-    let mut b = 0;
-    while b < end {
-        let hash = hashes[b];
+    for (b, &hash) in hashes[..end].iter().enumerate() {
         check_bucket(image, n, hash, b)?;
-        b += 1;
     }
     Ok(())
 }

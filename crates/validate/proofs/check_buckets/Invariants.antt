@@ -1,11 +1,8 @@
 -- At the head of the loop the buckets so far pass. Assumes nothing.
-use Rattle.std.proofs.Common.{◌≡◌, ◌-◌, ◌≤◌}
+use Rattle.std.proofs.Common.{◌≡◌}
 use Rattle.answers.specs.Answers.{given}
 use Rattle.validate.specs.InnerAudit.{paths_to}
 use Rattle.validate.proofs.check_buckets.Given as goal
 
 abbrev pub invariant-loop-b : goal.invariant-loop-b
-invariant-loop-b l = (l.b ≤ l.end) × (paths_to l.image l.n l.hashes l.b ≡ given tt)
-
-abbrev pub decreases-loop-b : goal.decreases-loop-b
-decreases-loop-b l = l.end - l.b
+invariant-loop-b l = paths_to l.image l.n l.hashes l.b ≡ given tt

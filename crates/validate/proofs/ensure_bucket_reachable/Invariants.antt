@@ -1,12 +1,9 @@
 -- The walk passes visits that are neither the bucket nor empty. Assumes nothing.
-use Rattle.std.proofs.Common.{◌≡◌, ◌-◌, ◌≤◌}
+use Rattle.std.proofs.Common.{◌≡◌}
 use Rattle.probe.specs.Path.{visit}
 use Rattle.probe.proofs.Walk.{Passed}
 use Rattle.validate.specs.Audit.{stops_reach}
 use Rattle.validate.proofs.ensure_bucket_reachable.Given as goal
 
 abbrev pub invariant-loop-k : goal.invariant-loop-k
-invariant-loop-k l = (l.bucket ≡ visit l.n l.hash l.k) × (l.k ≤ l.n) × Passed (stops_reach l.image l.b) l.n l.hash 0 l.k
-
-abbrev pub decreases-loop-k : goal.decreases-loop-k
-decreases-loop-k l = l.n - l.k
+invariant-loop-k l = (l.bucket ≡ visit l.n l.hash l.k) × Passed (stops_reach l.image l.b) l.n l.hash 0 l.k
