@@ -7,6 +7,7 @@ use Prim.Native.Nat.{ℕ, ◌-◌, ◌<◌}
 use native.Mathlib.Omega.{arith}
 use lib.Dec.{leb}
 use lib.ListN.{length, get_or, take, set, replicate, length-replicate, get_or-replicate}
+use Rattle.std.specs.Prelude.{Ok, Err}
 use Rattle.answers.specs.Answers.{Answer, given, refused}
 use Rattle.answers.specs.declared.Refusal.TheVariants.{LengthUnfit}
 use Rattle.blocks.specs.Blocks.{block, put, flat}
@@ -101,5 +102,5 @@ into_memory = four (in_lines 0 (omega arith)) (in_lines 2 (omega arith)) (in_lin
     four p q r s = cc
 
 -- each case of the code's answer
-pub said : map line_said (line.More 10 5 ∷ line.Last 8 ∷ line.Refused LengthUnfit ∷ []) ≡ given (on 10 5) ∷ given (over 8) ∷ refused 2 ∷ []
+pub said : map line_said (Ok (line.More 10 5) ∷ Ok (line.Last 8) ∷ Err LengthUnfit ∷ []) ≡ given (on 10 5) ∷ given (over 8) ∷ refused 2 ∷ []
 said = refl

@@ -1,29 +1,21 @@
 -- The lines before a position stand at the start of the memory, and what is left to come are the lines from there on. Assumes nothing.
 use mathlib.Core.Path.{◌≡◌, refl, sym, ap, ◌∙◌, subst}
-use mathlib.Core.List.{List, [], ◌∷◌, ◌++◌, append_assoc}
-use mathlib.Core.Logic.{⊎_elim}
+use mathlib.Core.List.{List, [], ◌++◌, append_assoc}
 use borrow.Rule.Slice.PartMut.{put_mid, mid_of}
-use Prim.Native.Nat.{ℕ, zero, suc, ◌+◌, ◌-◌, ◌*◌, ◌≤◌, ◌<◌}
+use Prim.Native.Nat.{ℕ, zero, suc, ◌+◌, ◌-◌, ◌*◌, ◌≤◌}
 use native.Mathlib.Nat.{lt_of_not-le}
 use native.Mathlib.Decide.{dec_le}
 use native.Mathlib.Omega.{arith}
 use borrow.Author.Tests.{le-leb, lt-leb}
 use lib.ListN.{length, drop, length-append, length-drop}
 use lib.Seq.{length-take-le}
-use types.Run.{OneOf}
-use denote.Enum.Declared.{tag_of}
-use Rattle.answers.specs.Answers.{given, refused}
-use Rattle.answers.specs.Refusals.{number_of}
+use Rattle.answers.specs.Answers.{given}
 use Rattle.answers.proofs.Laws.{given_refused, given_one}
 use Rattle.blocks.specs.Blocks.{put}
 use Rattle.blocks.proofs.Laws.{put_fits, put-length}
 use Rattle.wal_list.specs.Lines.{most, lines_of}
-use Rattle.wal_list.specs.Shown.{Shown, more, last, shown_at, text_of, on, over, said_of, line_said, line_answer, line_after, lines_size, lines_answer, lines_after}
-use Rattle.wal_list.specs.declared.Line.{Line}
-use Rattle.wal_list.specs.declared.Line.TheVariants as line
-use Rattle.wal_list.specs.contracts.Line as LineT
+use Rattle.wal_list.specs.Shown.{Shown, more, last, shown_at, text_of, on, over, said_of, lines_size, lines_answer, lines_after}
 use Rattle.wal_list.proofs.Writing.{Written, written_on, part-put}
-use Rattle.wal_list.proofs.ShownLaws.{room_answer, room_after}
 use Rattle.wal_list.proofs.AllLines.{and_on, lines_in, all_lines, text_short, Leads, shown_leads}
 use Rattle.wal_list.proofs.Fits.{lines_fit}
 
@@ -31,9 +23,6 @@ use Rattle.wal_list.proofs.Fits.{lines_fit}
 module _ (log out : List ℕ) where
   pub lines-put : (m : List ℕ) (n : ℕ) → lines_size ≤ length out → Written out (lines_of log) m n → (given n ≡ lines_answer out log) × (m ≡ lines_after out log)
   lines-put m n h w = (ap given w.1 ∙ simp (le-leb lines_size (length out) h), w.0 ∙ simp (le-leb lines_size (length out) h))
-
-  pub lines_left : length out < lines_size → (refused 2 ≡ lines_answer out log) × (out ≡ lines_after out log)
-  lines_left h = (simp (lt-leb lines_size (length out) h), simp (lt-leb lines_size (length out) h))
 
   -- so what a call answers is within the memory that it leaves
   pub lines_within : (m : List ℕ) (n : ℕ) → given n ≡ lines_answer out log → m ≡ lines_after out log → n ≤ length m
@@ -46,27 +35,14 @@ module _ (log out : List ℕ) where
           omega (arith, given_one n (length (lines_of log)) e, lines_fit log, ap length f, put-length out 0 (lines_of log))
       go (no p) = absurd (given_refused n 2 (simp (lt-leb lines_size (length out) (lt_of_not-le p)) at a))
 
--- ---- which line was shown, by what a call with room says
-module _ (l : List ℕ) (s : Shown) (room : 80 ≤ length l) where
-  pub told_over : (n : ℕ) → given (over n) ≡ line_answer l s → (s ≡ last (text_of s)) × (n ≡ length (text_of s))
-  told_over n h = go s (h ∙ sym (room_answer l s room))
-    where
-      go : (s : Shown) → given (over n) ≡ given (said_of s) → (s ≡ last (text_of s)) × (n ≡ length (text_of s))
-      go (more t p) e = let z : ◌≡◌ {A = ℕ} 0 1 = cc in absurd (omega arith)
-      go (last t) e = (refl, cc)
+-- ---- which line was shown, by what a call says
+pub told_over : (s : Shown) (n : ℕ) → given (over n) ≡ given (said_of s) → (s ≡ last (text_of s)) × (n ≡ length (text_of s))
+told_over (more t p) n e = cc
+told_over (last t) n e = (refl, cc)
 
-  pub told_on : (n p : ℕ) → given (on n p) ≡ line_answer l s → (s ≡ more (text_of s) p) × (n ≡ length (text_of s))
-  told_on n p h = go s (h ∙ sym (room_answer l s room))
-    where
-      go : (s : Shown) → given (on n p) ≡ given (said_of s) → (s ≡ more (text_of s) p) × (n ≡ length (text_of s))
-      go (more t q) e = let f : q ≡ p = cc in (ap (more t) f, cc)
-      go (last t) e = let z : ◌≡◌ {A = ℕ} 0 1 = cc in absurd (omega arith)
-
-  -- there is one
-  pub told_one : (x : Line) → OneOf (0 ∷ 2 ∷ []) (tag_of LineT.the_type x) → OneOf (1 ∷ 2 ∷ []) (tag_of LineT.the_type x) → line_said x ≡ line_answer l s → ⊥
-  told_one (line.More n p) x y h = ⊎_elim (λ (e : 0 ≡ 1). omega arith) (λ (e : 0 ≡ 2). omega arith) y
-  told_one (line.Last n) x y h = ⊎_elim (λ (e : 1 ≡ 0). omega arith) (λ (e : 1 ≡ 2). omega arith) x
-  told_one (line.Refused r) x y h = given_refused (said_of s) (number_of r) (sym (h ∙ sym (room_answer l s room)))
+pub told_on : (s : Shown) (n p : ℕ) → given (on n p) ≡ given (said_of s) → (s ≡ more (text_of s) p) × (n ≡ length (text_of s))
+told_on (more t q) n p e = let f : q ≡ p = cc in (ap (more t) f, cc)
+told_on (last t) n p e = cc
 
 -- ---- what is left, by the line that is next
 module _ (log : List ℕ) (at b : ℕ) (t : List ℕ) where
@@ -111,13 +87,13 @@ module _ (log out₀ out : List ℕ) (done at : ℕ) (room : lines_size ≤ leng
   shown = shown_at log at
 
   -- the memory with that line
-  module _ (m : List ℕ) (filled : m ≡ line_after part shown) where
+  module _ (m : List ℕ) (filled : m ≡ put part 0 (text_of shown)) where
     abbrev after : List ℕ
     after = put_mid done (length out - done) out m
 
     put_there : after ≡ put out done (text_of shown)
     put_there =
-        ap (put_mid done (length out - done) out) (filled ∙ sym (room_after part shown part_room))
+        ap (put_mid done (length out - done) out) filled
         ∙ part-put out done (text_of shown) (omega (arith, done_short, text_short log at))
 
     written_line : (n : ℕ) → n ≡ length (text_of shown) → Written out₀ (f.lines ++ text_of shown) after (done + n)
@@ -125,17 +101,17 @@ module _ (log out₀ out : List ℕ) (done at : ℕ) (room : lines_size ≤ leng
         written_on out₀ f.lines out done (text_of shown) after (done + n) f.written (omega (arith, done_short, same_long, text_short log at, f.written.1)) put_there (omega arith)
 
     -- the last line
-    pub filled_end : (n : ℕ) → given (over n) ≡ line_answer part shown → Written out₀ (lines_of log) after (done + n)
+    pub filled_end : (n : ℕ) → given (over n) ≡ given (said_of shown) → Written out₀ (lines_of log) after (done + n)
     filled_end n h =
-        let told = told_over part shown part_room n h in
+        let told = told_over shown n h in
         subst (λ (t : List ℕ). Written out₀ t after (done + n))
         (sym (ap (λ (t : List ℕ). f.lines ++ t) (left_last log at f.bound (text_of shown) told.0)) ∙ f.left)
         (written_line n told.1)
 
     -- a line before it
-    pub filled_turn : (n p : ℕ) → given (on n p) ≡ line_answer part shown → Filled log out₀ after (done + n) p × Leads log at p
+    pub filled_turn : (n p : ℕ) → given (on n p) ≡ given (said_of shown) → Filled log out₀ after (done + n) p × Leads log at p
     filled_turn n p h =
-        let told = told_on part shown part_room n p h in
+        let told = told_on shown n p h in
         let ahead = shown_leads log at (text_of shown) p told.0 in
         (go f.bound ahead f.left f.enough told.0 (written_line n told.1), ahead)
       where

@@ -1,7 +1,8 @@
 -- 01, 'Reading off a log', and 02, W-207: one line of `list` at a time, and how it goes on. Assumes nothing.
-use Rattle.std.specs.Prelude.{cond, List, ℕ, ◌+◌, ◌*◌, leb, eqb, length}
+use Rattle.std.specs.Prelude.{cond, List, ℕ, ◌+◌, ◌*◌, leb, eqb, length, Result, Ok, Err}
 use Rattle.answers.specs.Answers.{Answer, given, refused}
 use Rattle.answers.specs.Refusals.{number_of}
+use Rattle.answers.specs.declared.Refusal.{Refusal}
 use Rattle.blocks.specs.Blocks.{put}
 use Rattle.wal.specs.Log.{start_size}
 use Rattle.wal.specs.Reader.{Next, next, ended, stopped, edition_at, start_of, next_by}
@@ -47,10 +48,10 @@ abbrev pub said_of : Shown → Said
 said_of (more t p) = on (length t) p
 said_of (last t) = over (length t)
 
-abbrev pub line_said : Line → Answer Said
-line_said (line.More n p) = given (on n p)
-line_said (line.Last n) = given (over n)
-line_said (line.Refused r) = refused (number_of r)
+abbrev pub line_said : Result Line Refusal → Answer Said
+line_said (Ok (line.More n p)) = given (on n p)
+line_said (Ok (line.Last n)) = given (over n)
+line_said (Err r) = refused (number_of r)
 
 -- no line is longer than 80 bytes; "another lent slice has the wrong length": 2 where the buffer is shorter, which then stays
 abbrev pub line_answer : List ℕ → Shown → Answer Said

@@ -3,13 +3,13 @@
 #![tactic(auto)]
 
 ghost use Rattle.std.specs.Prelude.{◌≡◌, ◌++◌, ◌+◌, ◌≤◌, length};
-ghost use Rattle.answers.specs.Answers.{given, number_said};
+ghost use Rattle.answers.specs.Answers.{given, answer_of};
+ghost use Rattle.answers.specs.Refusals.{number_of};
 ghost use Rattle.blocks.specs.Blocks.{put};
-ghost use Rattle.wal_list.specs.Lines.{ascii, decimal, end_line};
+ghost use Rattle.wal_list.specs.Lines.{ascii, decimal, end_line, refused_line};
 ghost use Rattle.wal_list.specs.Shown.{first_shown, shown_at, text_of, said_of, line_said, line_answer, line_after, lines_answer, lines_after};
-ghost use Rattle.wal_list.specs.InnerShown.{refusal_of};
 
-use answers::{Number, Refusal};
+use answers::Refusal;
 use wal_read::Head;
 
 // The longest log that is read.
@@ -26,7 +26,6 @@ pub const LINES_SIZE: usize = 4 * MOST + 2 * LINE_SIZE;
 pub enum Line {
     More { len: usize, next: usize },
     Last { len: usize },
-    Refused(Refusal),
 }
 
 // Puts a text into a line from `at` on and answers the position after it.
@@ -34,12 +33,9 @@ fn put_text(line: &mut [u8], at: usize, text: &[u8]) -> usize
     requires { at + length text.now ≤ length line.old }
     ensures { (line.new ≡ put line.old at text.now) × (result ≡ at + length text.now) }
 {
-    let mut i = 0;
-    while i < text.len() {
-        line[at + i] = text[i];
-        i += 1;
-    }
-    at + i
+    let end = at + text.len();
+    line[at..end].copy_from_slice(text);
+    end
 }
 
 // The same with a number in decimal.
@@ -91,94 +87,103 @@ fn put_end(line: &mut [u8], offset: usize) -> usize
     put_text(line, a, b" end\n")
 }
 
-// 01's number of a refused answer, 0 of one that is given.
-fn refusal(a: Number) -> u64
-    ensures { result ≡ refusal_of (number_said a) }
+// The line of a refusal, with its number.
+fn put_refused(line: &mut [u8], offset: usize, why: Refusal) -> usize
+    requires { 80 ≤ length line.old }
+    ensures { (line.new ≡ put line.old 0 (refused_line offset (number_of why))) × (result ≡ length (refused_line offset (number_of why))) }
 {
-    match a {
-        Number::Is(_) => 0,
-        Number::Refused(why) => answers::number_of(why) as u64,
-    }
+    put_line(
+        line,
+        offset,
+        b" refused ",
+        u64::from(answers::number_of(why)),
+    )
 }
 
 // The first line: the start, or why there is none.
 fn first_line(log: &[u8], line: &mut [u8]) -> Line
     requires { 80 ≤ length line.old }
-    ensures { (line_said result ≡ given (said_of (first_shown log.now))) × (line.new ≡ put line.old 0 (text_of (first_shown log.now))) }
+    ensures { (line_said (Ok result) ≡ given (said_of (first_shown log.now))) × (line.new ≡ put line.old 0 (text_of (first_shown log.now))) }
 {
     if MOST < log.len() {
-        let len = put_line(line, 0, b" refused ", 2);
+        let len = put_refused(line, 0, Refusal::LengthUnfit);
         return Line::Last { len };
     }
-    if log.len() == 0 {
+    if log.is_empty() {
         let len = put_text(line, 0, b"empty\n");
         return Line::Last { len };
     }
-    let start = wal_read::set(log);
-    let Number::Is(sync) = start else {
-        let len = put_line(line, 0, b" refused ", refusal(start));
-        return Line::Last { len };
-    };
-    let len = put_line(line, 0, b" start ", sync);
-    Line::More {
-        len,
-        next: wal_read::first_at(log),
+    match wal_read::set(log) {
+        Ok(sync) => Line::More {
+            len: put_line(line, 0, b" start ", sync),
+            next: wal_read::first_at(log),
+        },
+        Err(why) => Line::Last {
+            len: put_refused(line, 0, why),
+        },
+    }
+}
+
+// The line of the record at `at`, where the start is at 0.
+fn filled(log: &[u8], at: usize, line: &mut [u8]) -> Line
+    requires { 80 ≤ length line.old }
+    ensures { (line_said (Ok result) ≡ given (said_of (shown_at log.now at))) × (line.new ≡ put line.old 0 (text_of (shown_at log.now at))) }
+{
+    if at == 0 {
+        return first_line(log, line);
+    }
+    match wal_read::head_at_tolerant(log, at, wal_read::edition_of(log)) {
+        Ok(Head::Clear { bucket, next }) => Line::More {
+            len: put_line(line, at, b" clear ", bucket),
+            next,
+        },
+        Ok(
+            Head::Update {
+                bucket,
+                count,
+                next,
+            },
+        ) => Line::More {
+            len: put_update(line, at, bucket, count),
+            next,
+        },
+        Ok(Head::End) => Line::Last {
+            len: put_end(line, at),
+        },
+        Err(why) => Line::Last {
+            len: put_refused(line, at, why),
+        },
     }
 }
 
 // Fills in the line of the record at `at` (the start is at 0) and says how long it is and where the next
 // one is; every other byte of the buffer stays. A buffer shorter than LINE_SIZE is refused with 2.
-pub fn line_at(log: &[u8], at: usize, line: &mut [u8]) -> Line
+pub fn line_at(log: &[u8], at: usize, line: &mut [u8]) -> Result<Line, Refusal>
     ensures { (line_said result ≡ line_answer line.old (shown_at log.now at)) × (line.new ≡ line_after line.old (shown_at log.now at)) }
 {
     if line.len() < LINE_SIZE {
-        return Line::Refused(Refusal::LengthUnfit);
+        return Err(Refusal::LengthUnfit);
     }
-    if at == 0 {
-        return first_line(log, line);
-    }
-    let head = wal_read::head_at_tolerant(log, at, wal_read::edition_of(log));
-    if let Head::Refused(why) = head {
-        let len = put_line(line, at, b" refused ", answers::number_of(why) as u64);
-        return Line::Last { len };
-    }
-    if let Head::Clear { bucket, next } = head {
-        let len = put_line(line, at, b" clear ", bucket);
-        return Line::More { len, next };
-    }
-    let Head::Update {
-        bucket,
-        count,
-        next,
-    } = head
-    else {
-        let len = put_end(line, at);
-        return Line::Last { len };
-    };
-    let len = put_update(line, at, bucket, count);
-    Line::More { len, next }
+    Ok(filled(log, at, line))
 }
 
 // Puts the lines of a log at the start of `out`, one after the other, and answers how many bytes they are; every
 // byte after them stays. Memory shorter than LINES_SIZE is refused with 2 and left alone.
-pub fn lines_into(log: &[u8], out: &mut [u8]) -> Number
-    ensures { (number_said result ≡ lines_answer out.old log.now) × (out.new ≡ lines_after out.old log.now) }
+pub fn lines_into(log: &[u8], out: &mut [u8]) -> Result<u64, Refusal>
+    ensures { (answer_of result ≡ lines_answer out.old log.now) × (out.new ≡ lines_after out.old log.now) }
 {
     if out.len() < LINES_SIZE {
-        return Number::Refused(Refusal::LengthUnfit);
+        return Err(Refusal::LengthUnfit);
     }
     let mut done = 0;
     let mut at = 0;
     loop {
-        let shown = line_at(log, at, &mut out[done..]);
-        if let Line::Last { len } = shown {
-            return Number::Is((done + len) as u64);
+        match filled(log, at, &mut out[done..]) {
+            Line::More { len, next } => {
+                done += len;
+                at = next;
+            }
+            Line::Last { len } => return Ok((done + len) as u64),
         }
-        // there is room for each line, so no other answer comes
-        let Line::More { len, next } = shown else {
-            return Number::Refused(Refusal::LengthUnfit);
-        };
-        done += len;
-        at = next;
     }
 }
