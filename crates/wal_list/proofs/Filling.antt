@@ -3,14 +3,11 @@ use mathlib.Core.Path.{◌≡◌, refl, sym, ap, ◌∙◌, subst}
 use mathlib.Core.List.{List, [], ◌++◌, append_assoc}
 use borrow.Rule.Slice.PartMut.{put_mid, mid_of}
 use Prim.Native.Nat.{ℕ, zero, suc, ◌+◌, ◌-◌, ◌*◌, ◌≤◌}
-use native.Mathlib.Nat.{lt_of_not-le}
-use native.Mathlib.Decide.{dec_le}
 use native.Mathlib.Omega.{arith}
-use borrow.Author.Tests.{le-leb, lt-leb}
+use borrow.Author.Tests.{le-leb}
 use lib.ListN.{length, drop, length-append, length-drop}
 use lib.Seq.{length-take-le}
 use Rattle.answers.specs.Answers.{given}
-use Rattle.answers.proofs.Laws.{given_refused, given_one}
 use Rattle.blocks.specs.Blocks.{put}
 use Rattle.blocks.proofs.Laws.{put_fits, put-length}
 use Rattle.wal_list.specs.Lines.{most, lines_of}
@@ -23,17 +20,6 @@ use Rattle.wal_list.proofs.Fits.{lines_fit}
 module _ (log out : List ℕ) where
   pub lines-put : (m : List ℕ) (n : ℕ) → lines_size ≤ length out → Written out (lines_of log) m n → (given n ≡ lines_answer out log) × (m ≡ lines_after out log)
   lines-put m n h w = (ap given w.1 ∙ simp (le-leb lines_size (length out) h), w.0 ∙ simp (le-leb lines_size (length out) h))
-
-  -- so what a call answers is within the memory that it leaves
-  pub lines_within : (m : List ℕ) (n : ℕ) → given n ≡ lines_answer out log → m ≡ lines_after out log → n ≤ length m
-  lines_within m n a b = go (dec_le lines_size (length out))
-    where
-      go : Dec (lines_size ≤ length out) → n ≤ length m
-      go (yes p) =
-          let e : given n ≡ given (length (lines_of log)) = simp (le-leb lines_size (length out) p) at a in
-          let f : m ≡ put out 0 (lines_of log) = simp (le-leb lines_size (length out) p) at b in
-          omega (arith, given_one n (length (lines_of log)) e, lines_fit log, ap length f, put-length out 0 (lines_of log))
-      go (no p) = absurd (given_refused n 2 (simp (lt-leb lines_size (length out) (lt_of_not-le p)) at a))
 
 -- ---- which line was shown, by what a call says
 pub told_over : (s : Shown) (n : ℕ) → given (over n) ≡ given (said_of s) → (s ≡ last (text_of s)) × (n ≡ length (text_of s))

@@ -2,7 +2,7 @@
 // them.
 #![tactic(auto)]
 
-ghost use Rattle.std.specs.Prelude.{◌≡◌, ◌++◌, ◌+◌, ◌≤◌, length};
+ghost use Rattle.std.specs.Prelude.{◌≡◌, ◌++◌, ◌+◌, ◌≤◌, length, IfOk, Ok};
 ghost use Rattle.answers.specs.Answers.{given, answer_of};
 ghost use Rattle.answers.specs.Refusals.{number_of};
 ghost use Rattle.blocks.specs.Blocks.{put};
@@ -170,7 +170,8 @@ pub fn line_at(log: &[u8], at: usize, line: &mut [u8]) -> Result<Line, Refusal>
 // Puts the lines of a log at the start of `out`, one after the other, and answers how many bytes they are; every
 // byte after them stays. Memory shorter than LINES_SIZE is refused with 2 and left alone.
 pub fn lines_into(log: &[u8], out: &mut [u8]) -> Result<u64, Refusal>
-    ensures { (answer_of result ≡ lines_answer out.old log.now) × (out.new ≡ lines_after out.old log.now) }
+    ensures lines { (answer_of result ≡ lines_answer out.old log.now) × (out.new ≡ lines_after out.old log.now) }
+    ensures within { IfOk result (λ n. n ≤ length out.new) }
 {
     if out.len() < LINES_SIZE {
         return Err(Refusal::LengthUnfit);

@@ -1,6 +1,7 @@
 -- Each line is put where those before it end, and the lines of any log leave room for one more. Assumes nothing.
-use Rattle.std.proofs.Common.{◌+◌, ◌-◌, ◌≤◌, length, arith}
+use Rattle.std.proofs.Common.{◌+◌, ◌-◌, ◌≤◌, length, ap, arith}
 use borrow.Rule.Slice.PartMut.{put_mid}
+use Rattle.blocks.proofs.Laws.{put-length}
 use Rattle.wal_list.specs.Lines.{lines_of}
 use Rattle.wal_list.proofs.Writing.{Written}
 use Rattle.wal_list.proofs.AllLines.{Leads}
@@ -48,5 +49,10 @@ all c =
 pub overflow_add-result : goal.overflow_add-result
 overflow_add-result c = omega (arith, (all c).1, lines_fit c.args.log.now)
 
-pub returns-in-Last : goal.returns-in-Last
-returns-in-Last c = lines-put c.args.log.now c.args.out.now _ _ c.if-out-lt-LINES_SIZE.false (all c)
+pub returns-in-Last-clause-lines : goal.returns-in-Last-clause-lines
+returns-in-Last-clause-lines c = lines-put c.args.log.now c.args.out.now _ _ c.if-out-lt-LINES_SIZE.false (all c)
+
+pub returns-in-Last-clause-within : goal.returns-in-Last-clause-within
+returns-in-Last-clause-within c =
+    let out = c.args.out.now in
+    omega (arith, (all c).1, lines_fit c.args.log.now, ap length (all c).0, put-length out 0 (lines_of c.args.log.now))
