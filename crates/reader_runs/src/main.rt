@@ -8,25 +8,15 @@ ghost use Rattle.wal.specs.Reader.{start_of};
 ghost use Rattle.wal_read.specs.Entry.{next_of, Taken};
 ghost use Rattle.wal_read.specs.Set.{first_at, gives_at};
 
-use answers::Number;
+use answers::Refusal;
 use wal::AfterEnd;
 use wal_read::{WalEntry, What};
-
-fn page() -> [u8; 4096]
-    ensures { 4096 ≡ length result }
-{
-    [0; 4096]
-}
 
 // Lays bytes into a log from `at` on.
 fn lay(log: &mut [u8], at: usize, bytes: &[u8])
     requires { at + length bytes.now ≤ length log.old }
 {
-    let mut i = 0;
-    while i < bytes.len() {
-        log[at + i] = bytes[i];
-        i += 1;
-    }
+    log[at..at + bytes.len()].copy_from_slice(bytes);
 }
 
 // What a reader set on a log gives when it is asked a second time.
@@ -51,16 +41,19 @@ fn word(w: &[u8], n: u64) {
     io::print_decimal(1, n);
 }
 
+fn show_refusal(why: Refusal) {
+    word(b"refused ", u64::from(answers::number_of(why)));
+}
+
 // What an entry is, and the position after it.
 fn show_entry(e: WalEntry) {
-    let what = e.what;
-    match what {
-        What::Clear(bucket) => word(b"clear ", bucket),
-        What::Update(bucket) => word(b"update ", bucket),
-        What::End => {
+    match e.what {
+        Ok(What::Clear(bucket)) => word(b"clear ", bucket),
+        Ok(What::Update(bucket)) => word(b"update ", bucket),
+        Ok(What::End) => {
             io::write_all(1, b"end");
         }
-        What::Refused(why) => word(b"refused ", answers::number_of(why) as u64),
+        Err(why) => show_refusal(why),
     }
     word(b", next at ", e.next as u64);
     io::write_all(1, b"\n");
@@ -70,7 +63,7 @@ fn show_entry(e: WalEntry) {
 fn show_log(title: &[u8], bytes: &[u8], n: usize)
     requires { (length bytes.now ≤ 4096) × (n ≤ 4096) }
 {
-    let mut log = page();
+    let mut log = [0u8; 4096];
     lay(&mut log, 0, bytes);
     io::write_all(1, title);
     show_entry(read_again(&log[..n]));
@@ -115,18 +108,16 @@ fn log_two(log: &mut [u8])
 fn show_all(log: &[u8]) {
     let start = wal_read::set(log);
     match start {
-        Number::Is(sync) => word(b"sync ", sync),
-        Number::Refused(why) => word(b"refused ", answers::number_of(why) as u64),
+        Ok(sync) => word(b"sync ", sync),
+        Err(why) => show_refusal(why),
     }
     let mut at = wal_read::first_at(log);
     word(b", first at ", at as u64);
     io::write_all(1, b"\n");
-    let mut i: usize = 0;
-    while i < 4 {
+    for _ in 0..4 {
         let e = wal_read::entry_set(log, at, start, AfterEnd::Zeros);
         at = e.next;
         show_entry(e);
-        i += 1;
     }
 }
 
@@ -135,7 +126,7 @@ fn show_all(log: &[u8]) {
 fn show_two(title: &[u8], at: usize, bytes: &[u8])
     requires { at + length bytes.now ≤ 4096 }
 {
-    let mut log = page();
+    let mut log = [0u8; 4096];
     log_two(&mut log);
     lay(&mut log, at, bytes);
     io::write_all(1, title);
@@ -151,57 +142,31 @@ fn edition_two() {
     show_two(b"-- edition two: 0xB2 as the last byte\n", 4095, b"\xB2");
 }
 
-// The number of a refusal that leaves a reader at `at`; 0 for the end there, 99 for all else.
-fn stop_at(e: WalEntry, at: usize) -> u64 {
-    if e.next != at {
-        return 99;
-    }
-    let what = e.what;
-    match what {
-        What::Refused(why) => answers::number_of(why) as u64,
-        What::End => 0,
-        What::Clear(_) => 99,
-        What::Update(_) => 99,
-    }
+// Whether a reader stays at `at` with the refusal of a byte after end.
+fn refuses(e: WalEntry, at: usize) -> bool {
+    e.next == at && matches!(e.what, Err(Refusal::AfterEndUsed))
 }
 
-// 1 where a log whose end is its first entry gives 27 there, both by the call with a position and by a reader that is asked
-// again; else 0.
-fn refused_twice(log: &[u8], at: usize) -> u64
-    ensures { result ≤ 1 }
-{
+// Whether it stays there at the end.
+fn ends(e: WalEntry, at: usize) -> bool {
+    e.next == at && matches!(e.what, Ok(What::End))
+}
+
+// Whether a log whose end is its first entry gives that refusal there, both by the call with a position and by a reader
+// that is asked again.
+fn refused_twice(log: &[u8], at: usize) -> bool {
     let first = wal_read::entry_set(log, at, wal_read::set(log), AfterEnd::Zeros);
-    if stop_at(first, at) != 27 {
-        return 0;
-    }
-    if stop_at(read_again(log), at) != 27 {
-        return 0;
-    }
-    1
+    refuses(first, at) && refuses(read_again(log), at)
 }
 
-// 1 where its tolerant reader gives end there, and so does the call with the position after that; else 0.
-fn ended_twice(log: &[u8], at: usize) -> u64
-    ensures { result ≤ 1 }
-{
+// Whether its tolerant reader gives end there, and so does the call with the position after that.
+fn ended_twice(log: &[u8], at: usize) -> bool {
     let first = peek_tolerant(log);
-    if stop_at(first, at) != 0 {
-        return 0;
-    }
     let again = wal_read::entry_set(log, first.next, wal_read::set(log), AfterEnd::Tolerant);
-    if stop_at(again, at) != 0 {
-        return 0;
-    }
-    1
+    ends(first, at) && ends(again, at)
 }
 
-fn pages() -> [u8; 12288]
-    ensures { 12288 ≡ length result }
-{
-    [0; 12288]
-}
-
-// Of a log of n bytes: the position of end, the bytes after it, those at which the reader answers 27 there twice, and those
+// Of a log of n bytes: the position of end, the bytes after it, those at which the reader refuses there twice, and those
 // at which the tolerant one answers end there twice.
 fn show_counts(n: usize, at: usize, tried: u64, refused: u64, ended: u64) {
     word(b"log of ", n as u64);
@@ -214,29 +179,25 @@ fn show_counts(n: usize, at: usize, tried: u64, refused: u64, ended: u64) {
 
 // A log of n bytes that is a start and an end, then zeros; each byte after end is set by itself.
 fn show_after(bytes: &[u8], n: usize)
-    requires { (length bytes.now ≤ 12288) × (n ≤ 12288) }
+    requires { (length bytes.now ≤ n) × (n ≤ 12288) }
 {
-    let mut log = pages();
+    let mut log = [0u8; 12288];
     lay(&mut log, 0, bytes);
     let at = wal_read::first_at(bytes);
-    let mut tried: u64 = 0;
     let mut refused: u64 = 0;
     let mut ended: u64 = 0;
-    let mut i = bytes.len();
-    while i < n {
+    for i in bytes.len()..n {
         log[i] = 1;
-        tried += 1;
-        refused += refused_twice(&log[..n], at);
-        ended += ended_twice(&log[..n], at);
+        refused += u64::from(refused_twice(&log[..n], at));
+        ended += u64::from(ended_twice(&log[..n], at));
         log[i] = 0;
-        i += 1;
     }
-    show_counts(n, at, tried, refused, ended);
+    show_counts(n, at, (n - bytes.len()) as u64, refused, ended);
 }
 
 // Such a log of one page, and of three.
 fn show_pages(title: &[u8], bytes: &[u8])
-    requires { length bytes.now ≤ 12288 }
+    requires { length bytes.now ≤ 4096 }
 {
     io::write_all(1, title);
     show_after(bytes, 4096);
