@@ -8,7 +8,7 @@ ghost use Rattle.ht_file.specs.Places.{image_fits};
 ghost use Rattle.probe.specs.Path.{page_end};
 ghost use Rattle.label_search.specs.Labels.{labelled, doubled, doubled_answer};
 ghost use Rattle.label_search.specs.InnerSearch.{FirstDoubled};
-ghost use Rattle.label_search.specs.InnerFilter.{spread, folded, mixed, key_at, with_key, has_key, KeysOf, Noted, Marking, Suspected, Sought, Seeking, SoughtTo, FirstOfClass};
+ghost use Rattle.label_search.specs.InnerFilter.{spread, folded, mixed, key_at, with_key, has_key, of_class, KeysOf, Noted, Marking, Suspected, Sought, Seeking, SoughtTo, FirstOfClass};
 
 use answers::Refusal;
 use bucket_set::WORDS;
@@ -22,34 +22,24 @@ const CLASS_SIZE: u64 = 262144;
 // So many labels are searched for one by one.
 const FEW: u64 = 64;
 
-// ---- the search for a label, made only where the filters do not rule it out
-
-// Whether a full bucket before b has b's label.
-fn search_label(image: &[u8], n: usize, b: usize) -> bool
-    requires { (image_fits n (length image.now) ≡ true) × (b < n) }
-    ensures { result ≡ labelled image.now n (page_end image.now n b) b }
-{
-    let label = blocks::block_32(image, ht_file::page_start(n, b) + ID_AT);
-    for j in 0..b {
-        if meta_map::is_full(image[j]) {
-            if probe::ends_in(image, ht_file::page_start(n, j) + ID_AT, label) {
-                return true;
-            }
-        }
-    }
-    false
+// The image of a table of n buckets, whole.
+#[derive(Clone, Copy)]
+struct Table<'a> {
+    image: &'a [u8],
+    n: usize,
+    ghost fits: { image_fits n (length image.now) ≡ true },
 }
 
-// Whether bucket b is full and an earlier full one has its label.
-fn is_doubled(image: &[u8], n: usize, b: usize) -> bool
-    requires { (image_fits n (length image.now) ≡ true) × (b < n) }
-    ensures { result ≡ doubled image.now n b }
-{
-    if meta_map::is_full(image[b]) {
-        return search_label(image, n, b);
-    }
-    false
+// One of so many classes of labels, by their keys.
+#[derive(Clone, Copy)]
+struct Class {
+    index: u64,
+    count: u64,
+    ghost some: { 0 < count },
 }
+
+// A set of cells.
+type Filter = [u64; WORDS];
 
 // ---- the key of a label
 
@@ -75,23 +65,10 @@ fn mix_words(w0: u64, w1: u64, w2: u64, w3: u64) -> u64
     fold_word(spread_word(fold_word(low ^ high), 0xC2B2AE3D, 0x27D4EB2F))
 }
 
-// The key of bucket b's label.
-fn label_key(image: &[u8], n: usize, b: usize) -> u64
-    requires { (image_fits n (length image.now) ≡ true) × (b < n) }
-    ensures { result ≡ key_at image.now n b }
-{
-    let at = ht_file::page_start(n, b) + ID_AT;
-    let w0 = blocks::read_u64(image, at);
-    let w1 = blocks::read_u64(image, at + 8);
-    let w2 = blocks::read_u64(image, at + 16);
-    let w3 = blocks::read_u64(image, at + 24);
-    mix_words(w0, w1, w2, w3)
-}
-
 // ---- the filters
 
 // Puts a key's three cells into a filter.
-fn add_key(filter: &mut [u64], key: u64)
+fn add_key(filter: &mut Filter, key: u64)
     ensures { filter.new ≡ with_key filter.old key }
 {
     bucket_set::add(filter, (key % 1048576) as usize);
@@ -100,250 +77,244 @@ fn add_key(filter: &mut [u64], key: u64)
 }
 
 // Whether all three cells of a key are in a filter.
-fn has_key(filter: &[u64], key: u64) -> bool
+fn has_key(filter: &Filter, key: u64) -> bool
     ensures { result ≡ has_key filter.now key }
 {
-    if bucket_set::has(filter, (key % 1048576) as usize) {
-        if bucket_set::has(filter, (key / 1048576 % 1048576) as usize) {
-            return bucket_set::has(filter, (key / 1099511627776 % 1048576) as usize);
-        }
-    }
-    false
+    bucket_set::has(filter, (key % 1048576) as usize)
+        && bucket_set::has(filter, (key / 1048576 % 1048576) as usize)
+        && bucket_set::has(filter, (key / 1099511627776 % 1048576) as usize)
 }
 
-// ---- the passes over the labels of one class, 16 buckets at a time
+// ---- a bucket in the passes over the labels of one class
 
-// The keys of the full buckets from `from` to `to`. All are read before any filter is written, so that
-// the waits for their memory overlap.
-fn label_keys(image: &[u8], n: usize, from: usize, to: usize) -> [u64; 16]
-    requires { (image_fits n (length image.now) ≡ true) × (to ≤ n) × (to ≤ from + 16) × (from ≤ to) }
-    ensures { KeysOf image.now n from to result }
-{
-    let mut keys = [0u64; 16];
-    for b in from..to {
-        if meta_map::is_full(image[b]) {
-            keys[b - from] = label_key(image, n, b);
-        }
+impl Class {
+    // Whether a bucket with this tag and key is full and its label of the class.
+    fn has(self, tag: u8, key: u64) -> bool
+        ensures { result ≡ of_class self.count self.index tag key }
+    {
+        meta_map::is_full(tag) && key / 1152921504606846976 % self.count == self.index
     }
-    keys
-}
 
-// A bucket in the first pass: a label whose cells are all set by earlier ones is a suspect, and any
-// other sets its cells. Answers whether it is a suspect.
-fn note_label(
-    tag: u8,
-    key: u64,
-    classes: u64,
-    class: u64,
-    seen: &mut [u64],
-    suspects: &mut [u64],
-) -> bool
-    requires { (0 < classes) × (length seen.old ≡ 16384) × (length suspects.old ≡ 16384) }
-    ensures { Noted classes «class» tag key seen.old suspects.old seen.new suspects.new result }
-{
-    if meta_map::is_full(tag) {
-        if key / 1152921504606846976 % classes == class {
-            if has_key(&seen[..], key) {
+    // A bucket in the first pass: a label whose cells are all set by earlier ones is a suspect, and any
+    // other sets its cells. Answers whether it is a suspect.
+    fn note_label(self, tag: u8, key: u64, seen: &mut Filter, suspects: &mut Filter) -> bool
+        ensures { Noted self.count self.index tag key seen.old suspects.old seen.new suspects.new result }
+    {
+        if self.has(tag, key) {
+            if has_key(seen, key) {
                 add_key(suspects, key);
                 return true;
             }
             add_key(seen, key);
         }
+        false
     }
-    false
+
+    // A bucket in the second pass, which looks at suspects only and at labels that set the same cells.
+    // Answers whether its cells are all set by earlier ones of these, so that its label is to be searched for.
+    fn seek_label(self, tag: u8, key: u64, suspects: &Filter, seen: &mut Filter) -> bool
+        ensures { Sought self.count self.index tag key suspects.now seen.old seen.new result }
+    {
+        if self.has(tag, key) && has_key(suspects, key) {
+            if has_key(seen, key) {
+                return true;
+            }
+            add_key(seen, key);
+        }
+        false
+    }
 }
 
-// The first pass over a block. Answers whether there is any suspect so far.
-fn mark_block(
-    image: &[u8],
-    n: usize,
-    from: usize,
-    to: usize,
-    classes: u64,
-    class: u64,
-    any: bool,
-    seen: &mut [u64],
-    suspects: &mut [u64],
-) -> bool
-    requires { (image_fits n (length image.now) ≡ true) × (to ≤ n) × (to ≤ from + 16) × (from ≤ to) × (0 < classes) × (Marking image.now n classes «class» from seen.old suspects.old any) }
-    ensures { Marking image.now n classes «class» to seen.new suspects.new result }
-{
-    let keys = label_keys(image, n, from, to);
-    let mut some = any;
-    for b in from..to {
-        some |= note_label(image[b], keys[b - from], classes, class, seen, suspects);
-    }
-    some
-}
+impl Table<'_> {
+    // ---- the search for a label, made only where the filters do not rule it out
 
-// The first pass: the suspects among the buckets before `end`, and whether there is any.
-fn mark_suspects(
-    image: &[u8],
-    n: usize,
-    end: usize,
-    classes: u64,
-    class: u64,
-    seen: &mut [u64],
-    suspects: &mut [u64],
-) -> bool
-    requires { (image_fits n (length image.now) ≡ true) × (end ≤ n) × (0 < classes) × (length seen.old ≡ 16384) × (length suspects.old ≡ 16384) }
-    ensures { Marking image.now n classes «class» end seen.new suspects.new result }
-{
-    let mut any = false;
-    for from in (0..end).step_by(BLOCK) {
-        let to = end.min(from + BLOCK);
-        any = mark_block(image, n, from, to, classes, class, any, seen, suspects);
-    }
-    any
-}
-
-// A bucket in the second pass, which looks at suspects only and at labels that set the same cells.
-// Answers whether its cells are all set by earlier ones of these, so that its label is to be searched for.
-fn seek_label(
-    tag: u8,
-    key: u64,
-    classes: u64,
-    class: u64,
-    suspects: &[u64],
-    seen: &mut [u64],
-) -> bool
-    requires { (0 < classes) × (length suspects.now ≡ 16384) × (length seen.old ≡ 16384) }
-    ensures { Sought classes «class» tag key suspects.now seen.old seen.new result }
-{
-    if meta_map::is_full(tag) {
-        if key / 1152921504606846976 % classes == class {
-            if has_key(suspects, key) {
-                if has_key(&seen[..], key) {
+    // Whether a full bucket before b has b's label.
+    fn search_label(&self, b: usize) -> bool
+        requires { b < self.now.n }
+        ensures { result ≡ labelled self.now.image.now self.now.n (page_end self.now.image.now self.now.n b) b }
+    {
+        let label = blocks::block_32(self.image, ht_file::page_start(self.n, b) + ID_AT);
+        for j in 0..b {
+            if meta_map::is_full(self.image[j]) {
+                if probe::ends_in(self.image, ht_file::page_start(self.n, j) + ID_AT, label) {
                     return true;
                 }
-                add_key(seen, key);
             }
         }
+        false
     }
-    false
-}
 
-// The second pass over a block: the first bucket there whose label an earlier one has, or `to`.
-fn seek_block(
-    image: &[u8],
-    n: usize,
-    from: usize,
-    to: usize,
-    classes: u64,
-    class: u64,
-    suspects: &[u64],
-    seen: &mut [u64],
-) -> usize
-    requires { (image_fits n (length image.now) ≡ true) × (to ≤ n) × (to ≤ from + 16) × (from ≤ to) × (0 < classes) × (length suspects.now ≡ 16384) × (Suspected image.now n to classes «class» suspects.now true) × (Seeking image.now n classes «class» suspects.now from seen.old) }
-    ensures { SoughtTo image.now n classes «class» suspects.now to seen.new result }
-{
-    let keys = label_keys(image, n, from, to);
-    for b in from..to {
-        if seek_label(image[b], keys[b - from], classes, class, suspects, seen) {
-            if is_doubled(image, n, b) {
+    // Whether bucket b is full and an earlier full one has its label.
+    fn is_doubled(&self, b: usize) -> bool
+        requires { b < self.now.n }
+        ensures { result ≡ doubled self.now.image.now self.now.n b }
+    {
+        meta_map::is_full(self.image[b]) && self.search_label(b)
+    }
+
+    // The key of bucket b's label.
+    fn label_key(&self, b: usize) -> u64
+        requires { b < self.now.n }
+        ensures { result ≡ key_at self.now.image.now self.now.n b }
+    {
+        let at = ht_file::page_start(self.n, b) + ID_AT;
+        let w0 = blocks::read_u64(self.image, at);
+        let w1 = blocks::read_u64(self.image, at + 8);
+        let w2 = blocks::read_u64(self.image, at + 16);
+        let w3 = blocks::read_u64(self.image, at + 24);
+        mix_words(w0, w1, w2, w3)
+    }
+
+    // ---- the passes over the labels of one class, 16 buckets at a time
+
+    // The keys of the full buckets from `from` to `to`. All are read before any filter is written, so that
+    // the waits for their memory overlap.
+    fn label_keys(&self, from: usize, to: usize) -> [u64; BLOCK]
+        requires { (to ≤ self.now.n) × (to ≤ from + 16) × (from ≤ to) }
+        ensures { KeysOf self.now.image.now self.now.n from to result }
+    {
+        let mut keys = [0; BLOCK];
+        for b in from..to {
+            if meta_map::is_full(self.image[b]) {
+                keys[b - from] = self.label_key(b);
+            }
+        }
+        keys
+    }
+
+    // The first pass over a block. Answers whether there is any suspect so far.
+    fn mark_block(
+        &self,
+        class: Class,
+        from: usize,
+        to: usize,
+        any: bool,
+        seen: &mut Filter,
+        suspects: &mut Filter,
+    ) -> bool
+        requires { (to ≤ self.now.n) × (to ≤ from + 16) × (from ≤ to) × Marking self.now.image.now self.now.n «class».count «class».index from seen.old suspects.old any }
+        ensures { Marking self.now.image.now self.now.n «class».count «class».index to seen.new suspects.new result }
+    {
+        let keys = self.label_keys(from, to);
+        let mut some = any;
+        for b in from..to {
+            some |= class.note_label(self.image[b], keys[b - from], seen, suspects);
+        }
+        some
+    }
+
+    // The first pass: the suspects among the buckets before `end`, and whether there is any.
+    fn mark_suspects(
+        &self,
+        class: Class,
+        end: usize,
+        seen: &mut Filter,
+        suspects: &mut Filter,
+    ) -> bool
+        requires { end ≤ self.now.n }
+        ensures { Marking self.now.image.now self.now.n «class».count «class».index end seen.new suspects.new result }
+    {
+        let mut any = false;
+        for from in (0..end).step_by(BLOCK) {
+            let to = end.min(from + BLOCK);
+            any = self.mark_block(class, from, to, any, seen, suspects);
+        }
+        any
+    }
+
+    // The second pass over a block: the first bucket there whose label an earlier one has, or `to`.
+    fn seek_block(
+        &self,
+        class: Class,
+        from: usize,
+        to: usize,
+        suspects: &Filter,
+        seen: &mut Filter,
+    ) -> usize
+        requires { (to ≤ self.now.n) × (to ≤ from + 16) × (from ≤ to) × Suspected self.now.image.now self.now.n to «class».count «class».index suspects.now true × Seeking self.now.image.now self.now.n «class».count «class».index suspects.now from seen.old }
+        ensures { SoughtTo self.now.image.now self.now.n «class».count «class».index suspects.now to seen.new result }
+    {
+        let keys = self.label_keys(from, to);
+        for b in from..to {
+            if class.seek_label(self.image[b], keys[b - from], suspects, seen) {
+                if self.is_doubled(b) {
+                    return b;
+                }
+            }
+        }
+        to
+    }
+
+    // The second pass: the first bucket before `end` whose label an earlier one has, or `end`.
+    fn first_found(&self, class: Class, end: usize, suspects: &Filter, seen: &mut Filter) -> usize
+        requires { (end ≤ self.now.n) × Suspected self.now.image.now self.now.n end «class».count «class».index suspects.now true }
+        ensures { FirstOfClass self.now.image.now self.now.n end «class».count «class».index result }
+    {
+        for from in (0..end).step_by(BLOCK) {
+            let to = end.min(from + BLOCK);
+            let r = self.seek_block(class, from, to, suspects, seen);
+            if r < to {
+                return r;
+            }
+        }
+        end
+    }
+
+    // Both passes over one class; the second only where there are suspects.
+    fn first_of_class(
+        &self,
+        class: Class,
+        end: usize,
+        seen: &mut Filter,
+        suspects: &mut Filter,
+    ) -> usize
+        requires { end ≤ self.now.n }
+        ensures { FirstOfClass self.now.image.now self.now.n end «class».count «class».index result }
+    {
+        bucket_set::empty(seen);
+        bucket_set::empty(suspects);
+        if self.mark_suspects(class, end, seen, suspects) {
+            bucket_set::empty(seen);
+            return self.first_found(class, end, suspects, seen);
+        }
+        end
+    }
+
+    // One class after the other, each up to the first doubled bucket of those before. The filters are on this function's frame.
+    fn first_by_passes(&self, full: u64) -> usize
+        ensures { FirstDoubled self.now.image.now self.now.n result }
+    {
+        let mut seen = [0; WORDS];
+        let mut suspects = [0; WORDS];
+        let count = full / (CLASS_SIZE + 1) + 1;
+        let mut first = self.n;
+        for index in 0..count {
+            first = self.first_of_class(Class { index, count }, first, &mut seen, &mut suspects);
+        }
+        first
+    }
+
+    // The same by a search for every label, which is the faster way where few buckets are full.
+    fn first_by_search(&self) -> usize
+        ensures { FirstDoubled self.now.image.now self.now.n result }
+    {
+        for b in 0..self.n {
+            if self.is_doubled(b) {
                 return b;
             }
         }
+        self.n
     }
-    to
-}
 
-// The second pass: the first bucket before `end` whose label an earlier one has, or `end`.
-fn first_found(
-    image: &[u8],
-    n: usize,
-    end: usize,
-    classes: u64,
-    class: u64,
-    suspects: &[u64],
-    seen: &mut [u64],
-) -> usize
-    requires { (image_fits n (length image.now) ≡ true) × (end ≤ n) × (0 < classes) × (length suspects.now ≡ 16384) × (length seen.old ≡ 16384) × (Suspected image.now n end classes «class» suspects.now true) }
-    ensures { (FirstOfClass image.now n end classes «class» result) × (length seen.new ≡ 16384) }
-{
-    for from in (0..end).step_by(BLOCK) {
-        let to = end.min(from + BLOCK);
-        let r = seek_block(image, n, from, to, classes, class, suspects, seen);
-        if r < to {
-            return r;
+    // By the way that is the faster for so many full buckets.
+    fn first_bucket(&self, full: u64) -> usize
+        ensures { FirstDoubled self.now.image.now self.now.n result }
+    {
+        if full <= FEW {
+            return self.first_by_search();
         }
+        self.first_by_passes(full)
     }
-    end
-}
-
-// Both passes over one class; the second only where there are suspects.
-fn first_of_class(
-    image: &[u8],
-    n: usize,
-    end: usize,
-    classes: u64,
-    class: u64,
-    seen: &mut [u64],
-    suspects: &mut [u64],
-) -> usize
-    requires { (image_fits n (length image.now) ≡ true) × (end ≤ n) × (0 < classes) × (length seen.old ≡ 16384) × (length suspects.old ≡ 16384) }
-    ensures { (FirstOfClass image.now n end classes «class» result) × (length seen.new ≡ 16384) × (length suspects.new ≡ 16384) }
-{
-    bucket_set::empty(seen);
-    bucket_set::empty(suspects);
-    if mark_suspects(image, n, end, classes, class, seen, suspects) {
-        bucket_set::empty(seen);
-        return first_found(image, n, end, classes, class, &suspects[..], seen);
-    }
-    end
-}
-
-// One class after the other, each up to the first doubled bucket of those before.
-fn first_of_classes(
-    image: &[u8],
-    n: usize,
-    classes: u64,
-    seen: &mut [u64],
-    suspects: &mut [u64],
-) -> usize
-    requires { (image_fits n (length image.now) ≡ true) × (0 < classes) × (length seen.old ≡ 16384) × (length suspects.old ≡ 16384) }
-    ensures { FirstDoubled image.now n result }
-{
-    let mut first = n;
-    for class in 0..classes {
-        first = first_of_class(image, n, first, classes, class, seen, suspects);
-    }
-    first
-}
-
-// The filters, on this function's frame, and the passes over them.
-fn first_by_passes(image: &[u8], n: usize, full: u64) -> usize
-    requires { image_fits n (length image.now) ≡ true }
-    ensures { FirstDoubled image.now n result }
-{
-    let mut seen = [0u64; WORDS];
-    let mut suspects = [0u64; WORDS];
-    let classes = full / (CLASS_SIZE + 1) + 1;
-    first_of_classes(image, n, classes, &mut seen[..], &mut suspects[..])
-}
-
-// The same by a search for every label, which is the faster way where few buckets are full.
-fn first_by_search(image: &[u8], n: usize) -> usize
-    requires { image_fits n (length image.now) ≡ true }
-    ensures { FirstDoubled image.now n result }
-{
-    for b in 0..n {
-        if is_doubled(image, n, b) {
-            return b;
-        }
-    }
-    n
-}
-
-// By the way that is the faster for so many full buckets.
-fn first_bucket(image: &[u8], n: usize, full: u64) -> usize
-    requires { image_fits n (length image.now) ≡ true }
-    ensures { FirstDoubled image.now n result }
-{
-    if full <= FEW {
-        return first_by_search(image, n);
-    }
-    first_by_passes(image, n, full)
 }
 
 // The first bucket whose label an earlier full bucket has, n where there is none. `full` says how many are
@@ -352,9 +323,6 @@ pub fn first_doubled(image: &[u8], n: usize, full: u64) -> Result<u64, Refusal>
     ensures { answer_of result ≡ doubled_answer image.now n }
 {
     ht_file::check_image(n, image.len())?;
-    let most = n as u64;
-    if most < full {
-        return Ok(first_bucket(image, n, most) as u64);
-    }
-    Ok(first_bucket(image, n, full) as u64)
+    let table = Table { image, n };
+    Ok(table.first_bucket(full.min(n as u64)) as u64)
 }

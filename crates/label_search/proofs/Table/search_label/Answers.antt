@@ -7,8 +7,8 @@ use Rattle.ht_file.specs.Places.{image_fits, start_in}
 use Rattle.ht_file.proofs.Laws.{image_fits_facts, start_is}
 use Rattle.probe.specs.Path.{page_end}
 use Rattle.label_search.proofs.Labels.{label_within, end_read, labelled_none, labelled_next, labelled_by}
-use Rattle.label_search.proofs.search_label.Goals.{then-is_full+else-ends_in, else-is_full}
-use Rattle.label_search.proofs.search_label.Goals as goal
+use Rattle.label_search.proofs.Table.search_label.Goals.{then-is_full+else-ends_in, else-is_full}
+use Rattle.label_search.proofs.Table.search_label.Goals as goal
 
 module _ (img : List ℕ) (n b : ℕ) (fits : image_fits n (length img) ≡ true) (less : b < n) (x : ℕ) (placed : x ≡ start_in n b) (label : List ℕ) (read : label ≡ block 32 img (x + 4064)) where
   label_is : label ≡ page_end img n b
@@ -23,29 +23,29 @@ module _ (img : List ℕ) (n b : ℕ) (fits : image_fits n (length img) ≡ true
       ap₂ same_bytes (sym (end_read img n j y (image_fits_facts n (length img) fits).1 (omega (arith, l, less)) e)) (sym label_is) ∙ sym q ∙ d
 
 pub loop-j-init : goal.loop-j-init
-loop-j-init c = let a = c.args in labelled_none a.image.now a.n (page_end a.image.now a.n a.b)
+loop-j-init c = let a = c.args in labelled_none a.self.now.image.now a.self.now.n (page_end a.self.now.image.now a.self.now.n a.b)
 
 pub returns-then-ends_in : goal.returns-then-ends_in
 returns-then-ends_in c =
     let a = c.args in
     let j = c.loop-j.j in
-    let l = page_end a.image.now a.n a.b in
-    let s = compared a.image.now a.n a.b c.requires.0 c.requires.1 c.page_start.result c.page_start.ensures c.block_32-label.result c.block_32-label.ensures
+    let l = page_end a.self.now.image.now a.self.now.n a.b in
+    let s = compared a.self.now.image.now a.self.now.n a.b c.args.self.now.fits c.requires c.page_start.result c.page_start.ensures c.block_32-label.result c.block_32-label.ensures
     j c.page_start-then-is_full.result c.ends_in.result true c.loop-j-test.true c.page_start-then-is_full.ensures c.ends_in.ensures c.if-ends_in.true in
-    sym (labelled_by a.image.now a.n l a.b j c.loop-j-test.true (sym c.if-is_full.ensures) (same_equal (page_end a.image.now a.n j) l s))
+    sym (labelled_by a.self.now.image.now a.self.now.n l a.b j c.loop-j-test.true (sym c.if-is_full.ensures) (same_equal (page_end a.self.now.image.now a.self.now.n j) l s))
 
 pub loop-j-preserved : goal.loop-j-preserved
 loop-j-preserved c =
     let a = c.args in
     let j = c.loop-j.j in
-    let l = page_end a.image.now a.n a.b in
-    let other = same_bytes (page_end a.image.now a.n j) l in
+    let l = page_end a.self.now.image.now a.self.now.n a.b in
+    let other = same_bytes (page_end a.self.now.image.now a.self.now.n j) l in
     let here = c.is_full.ensures in
-    labelled_next a.image.now a.n l j
+    labelled_next a.self.now.image.now a.self.now.n l j
     ∙ ap₂ ◌||◌ c.loop-j.invariant
     (elim c.if-is_full.branch [
       | then-is_full+else-ends_in w ↦ ap₂ ◌&&◌ (sym here ∙ w.if-is_full.true)
-          (compared a.image.now a.n a.b c.requires.0 c.requires.1 c.page_start.result c.page_start.ensures c.block_32-label.result c.block_32-label.ensures
+          (compared a.self.now.image.now a.self.now.n a.b c.args.self.now.fits c.requires c.page_start.result c.page_start.ensures c.block_32-label.result c.block_32-label.ensures
           j w.page_start-then-is_full.result w.ends_in.result false c.loop-j-test.true w.page_start-then-is_full.ensures w.ends_in.ensures w.if-ends_in.false)
       | else-is_full w ↦ ap (λ (t : Bool). t && other) (sym here ∙ w.if-is_full.false)
     ])
