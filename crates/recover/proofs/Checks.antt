@@ -1,28 +1,23 @@
 -- The check of a whole log, entry by entry: what is left of the log answers what the whole does. Assumes nothing.
 use mathlib.Core.Path.{◌≡◌, refl, sym, ap, ap₂, ◌∙◌}
-use mathlib.Core.Logic.{◌⊎◌, ⊎_elim}
 use mathlib.Core.Bool.{Bool, cond, ◌&&◌}
-use mathlib.Core.List.{List, [], ◌∷◌}
+use mathlib.Core.List.{List}
 use Prim.Native.Nat.{ℕ, ◌+◌, ◌*◌, ◌≤◌, ◌<◌, zero-le}
 use native.Mathlib.Nat.{zero-add, add_assoc}
 use native.Mathlib.Omega.{arith}
 use borrow.Author.Tests.{lt-ltb, le-ltb}
-use types.Run.{OneOf}
-use denote.Enum.Declared.{tag_of}
+use Rattle.std.specs.Prelude.{Ok}
 use Rattle.answers.specs.Answers.{Answer, given, refused}
-use Rattle.answers.specs.Refusals.{number_of}
 use Rattle.blocks.specs.Blocks.{le, block}
 use Rattle.wal.specs.Log.{Entry, clear, update, mark_size, start_size}
 use Rattle.wal.specs.Reader.{edition_at, diff_at, nodes_from, update_of, next, next_by, Reading, stop_at, and_then, read_from, read_log}
-use Rattle.wal_read.specs.Head.{head_of, head_said}
+use Rattle.wal_read.specs.Head.{the_end, a_refusal, head_of, head_said}
 use Rattle.wal_read.specs.declared.Head.{Head}
 use Rattle.wal_read.specs.declared.Head.TheVariants as head
-use Rattle.wal_read.specs.contracts.Head as HeadT
-use Rattle.wal_read.proofs.ReadLaws.{There, head_end, head_stop, read_entry_lem, read_end, read_stop}
+use Rattle.wal_read.proofs.ReadLaws.{There, head_clear, head_update, head_end, head_stop, read_entry_lem, read_end, read_stop}
 use Rattle.wal.specs.declared.AfterEnd.{AfterEnd}
 use Rattle.wal.specs.declared.Edition.{Edition}
 use Rattle.recover.specs.Replay.{bucket_of, all_inside, one_update, updates_in, after_entries, check_answer, updated, went_to, hashes_fit}
-use Rattle.recover.specs.InnerStops.{check_stop}
 
 -- at the head of the loop: so many updates are read, and the entries before `at` are inside the table
 pub record CheckState (rule : AfterEnd) (n : ℕ) (log : List ℕ) (at updates : ℕ) : Type 0 where
@@ -66,18 +61,11 @@ module _ (rule : AfterEnd) (n : ℕ) (log : List ℕ) (at updates : ℕ) (st : C
       ap (λ (t : Bool). cond t (after_entries (read_log rule log).stop (hashes_fit hashes (updates_in (read_log rule log).entries))) (refused 9)) (st.inside ∙ ap (λ (x : Reading). all_inside n x.entries) r)
       ∙ ap₂ (λ (s : Answer (Unit {0})) (u : ℕ). after_entries s (hashes_fit hashes u)) (st.stop ∙ ap (λ (x : Reading). x.stop) r) (st.count ∙ ap (λ (x : Reading). updates + updates_in x.entries) r ∙ z)
 
-  pub check_stop_lem : (hashes : ℕ) (h : Head) → head_said h ≡ head_of (next_by rule (edition_at log) log at) → OneOf (1 ∷ 2 ∷ 3 ∷ []) (tag_of HeadT.the_type h) → OneOf (0 ∷ 2 ∷ 3 ∷ []) (tag_of HeadT.the_type h)
-      → check_answer rule n log hashes ≡ check_stop (head_said h) updates hashes
-  check_stop_lem hashes (head.Clear b p) e o q = absurd (none 0 refl o)
-    where
-      none : (t : ℕ) → t ≡ 0 → (t ≡ 1) ⊎ ((t ≡ 2) ⊎ (t ≡ 3)) → ⊥
-      none t z = ⊎_elim (λ (x : t ≡ 1). omega arith) (⊎_elim (λ (x : t ≡ 2). omega arith) (λ (x : t ≡ 3). omega arith))
-  check_stop_lem hashes (head.Update b c p) e o q = absurd (none 1 refl q)
-    where
-      none : (t : ℕ) → t ≡ 1 → (t ≡ 0) ⊎ ((t ≡ 2) ⊎ (t ≡ 3)) → ⊥
-      none t z = ⊎_elim (λ (x : t ≡ 0). omega arith) (⊎_elim (λ (x : t ≡ 2). omega arith) (λ (x : t ≡ 3). omega arith))
-  check_stop_lem hashes head.End e o q = at_stop hashes (given tt) (read_end rule (edition_at log) log at (head_end (next_by rule (edition_at log) log at) e))
-  check_stop_lem hashes (head.Refused r) e o q = at_stop hashes (refused (number_of r)) (read_stop rule (edition_at log) log at (number_of r) (head_stop (next_by rule (edition_at log) log at) (number_of r) e))
+  pub check_end : (hashes : ℕ) → the_end ≡ head_of (next_by rule (edition_at log) log at) → check_answer rule n log hashes ≡ hashes_fit hashes updates
+  check_end hashes e = at_stop hashes (given tt) (read_end rule (edition_at log) log at (head_end (next_by rule (edition_at log) log at) e))
+
+  pub check_refused : (hashes k : ℕ) → a_refusal k ≡ head_of (next_by rule (edition_at log) log at) → check_answer rule n log hashes ≡ refused k
+  check_refused hashes k e = at_stop hashes (refused k) (read_stop rule (edition_at log) log at k (head_stop (next_by rule (edition_at log) log at) k e))
 
 -- the update that a head stands for, and its bucket
 pub there_bucket : (rule : AfterEnd) (ed : Edition) (log : List ℕ) (at b c p : ℕ) → There rule ed log at b c p → bucket_of (update_of log (at + mark_size ed)) ≡ b
@@ -98,3 +86,17 @@ there_entry rule ed log at b c p t =
 pub updated_there : (ed : Edition) (log : List ℕ) (at p : ℕ) → updated p ≡ went_to (update_of log (at + mark_size ed)) p
 unfolding update_of
 updated_there ed log at p = refl
+
+-- ---- what stands where a head was read, in an edition that is ed
+module _ (rule : AfterEnd) (ed own : Edition) (log : List ℕ) (at : ℕ) (h : Head) (said : head_said (Ok h) ≡ head_of (next_by rule ed log at)) (same : ed ≡ own) where
+  seen : (x : Head) → h ≡ x → head_said (Ok x) ≡ head_of (next_by rule own log at)
+  seen x e = sym (ap (λ (y : Head). head_said (Ok y)) e) ∙ said ∙ ap (λ (y : Edition). head_of (next_by rule y log at)) same
+
+  pub clear_read : (b p : ℕ) → h ≡ head.Clear b p → next_by rule own log at ≡ next (clear b) p
+  clear_read b p e = head_clear (next_by rule own log at) b p (seen (head.Clear b p) e)
+
+  pub update_read : (b c p : ℕ) → h ≡ head.Update b c p → There rule own log at b c p
+  update_read b c p e = head_update rule own log at b c p (seen (head.Update b c p) e)
+
+  pub end_read : h ≡ head.End → the_end ≡ head_of (next_by rule own log at)
+  end_read e = seen head.End e

@@ -10,6 +10,7 @@ use native.Mathlib.Omega.{arith}
 use lib.Dec.{ltb}
 use lib.ListN.{length, get_or, take, set, replicate, length-replicate, get_or-replicate}
 use borrow.Author.Tests.{ltb-true}
+use Rattle.std.specs.Prelude.{Ok, Err}
 use Rattle.answers.specs.Answers.{Answer, given, refused}
 use Rattle.answers.specs.declared.Refusal.TheVariants.{LogCut, BucketOutside}
 use Rattle.blocks.specs.Blocks.{block, flat, same_bytes, all_zero}
@@ -80,8 +81,8 @@ unfolding step_answer next_at block marked slots_below all_zero
 steps = refl
 
 -- each case of the code's answers
-pub said : (map recovered_said (R.Nothing ∷ R.Stale ∷ R.Applied ∷ R.Refused BucketOutside ∷ []) ≡ given nothing ∷ given stale ∷ given applied ∷ refused 9 ∷ [])
-    × (map stepped_said (S.Cleared 14 ∷ S.Updated 70 ∷ S.End ∷ S.Refused LogCut ∷ []) ≡ given (cleared 14) ∷ given (updated 70) ∷ given at_end ∷ refused 6 ∷ [])
+pub said : (map recovered_said (Ok R.Nothing ∷ Ok R.Stale ∷ Ok R.Applied ∷ Err BucketOutside ∷ []) ≡ given nothing ∷ given stale ∷ given applied ∷ refused 9 ∷ [])
+    × (map stepped_said (Ok (S.Cleared 14) ∷ Ok (S.Updated 70) ∷ Ok S.End ∷ Err LogCut ∷ []) ≡ given (cleared 14) ∷ given (updated 70) ∷ given at_end ∷ refused 6 ∷ [])
 said = (refl, refl)
 
 -- the log's one entry

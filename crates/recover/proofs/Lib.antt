@@ -2,7 +2,6 @@ pub mod Demand3
 pub mod Acceptance
 pub mod OneImage
 pub mod Cuts
-pub mod Stops
 pub mod Parts
 pub mod Pages
 pub mod Checks

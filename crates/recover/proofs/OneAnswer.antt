@@ -2,6 +2,8 @@
 use mathlib.Core.Path.{◌≡◌, refl}
 use Prim.Native.Nat.{ℕ}
 use native.Mathlib.Omega.{arith}
+use Rattle.std.specs.Prelude.{Result, Ok, Err}
+use Rattle.answers.specs.declared.Refusal.{Refusal}
 use Rattle.answers.proofs.Laws.{refusal_one}
 use Rattle.recover.specs.Replay.{stepped_said, recovered_said}
 use Rattle.recover.specs.declared.Stepped.{Stepped}
@@ -9,38 +11,38 @@ use Rattle.recover.specs.declared.Stepped.TheVariants as stepped
 use Rattle.recover.specs.declared.Recovered.{Recovered}
 use Rattle.recover.specs.declared.Recovered.TheVariants as recovered
 
-pub one_stepped : (a b : Stepped) → stepped_said a ≡ stepped_said b → a ≡ b
-one_stepped (stepped.Cleared p) (stepped.Cleared p') e = let fp : p ≡ p' = cc in cc
-one_stepped (stepped.Cleared p) (stepped.Updated p') e = let z : ◌≡◌ {A = ℕ} 0 1 = cc in absurd (omega arith)
-one_stepped (stepped.Cleared p) stepped.End e = let z : ◌≡◌ {A = ℕ} 0 1 = cc in absurd (omega arith)
-one_stepped (stepped.Cleared p) (stepped.Refused r') e = let z : ◌≡◌ {A = ℕ} 0 1 = cc in absurd (omega arith)
-one_stepped (stepped.Updated p) (stepped.Cleared p') e = let z : ◌≡◌ {A = ℕ} 0 1 = cc in absurd (omega arith)
-one_stepped (stepped.Updated p) (stepped.Updated p') e = let fp : p ≡ p' = cc in cc
-one_stepped (stepped.Updated p) stepped.End e = let z : ◌≡◌ {A = ℕ} 0 1 = cc in absurd (omega arith)
-one_stepped (stepped.Updated p) (stepped.Refused r') e = let z : ◌≡◌ {A = ℕ} 0 1 = cc in absurd (omega arith)
-one_stepped stepped.End (stepped.Cleared p') e = let z : ◌≡◌ {A = ℕ} 0 1 = cc in absurd (omega arith)
-one_stepped stepped.End (stepped.Updated p') e = let z : ◌≡◌ {A = ℕ} 0 1 = cc in absurd (omega arith)
-one_stepped stepped.End stepped.End e = refl
-one_stepped stepped.End (stepped.Refused r') e = let z : ◌≡◌ {A = ℕ} 0 1 = cc in absurd (omega arith)
-one_stepped (stepped.Refused r) (stepped.Cleared p') e = let z : ◌≡◌ {A = ℕ} 0 1 = cc in absurd (omega arith)
-one_stepped (stepped.Refused r) (stepped.Updated p') e = let z : ◌≡◌ {A = ℕ} 0 1 = cc in absurd (omega arith)
-one_stepped (stepped.Refused r) stepped.End e = let z : ◌≡◌ {A = ℕ} 0 1 = cc in absurd (omega arith)
-one_stepped (stepped.Refused r) (stepped.Refused r') e = let fr : r ≡ r' = refusal_one r r' cc in cc
+pub one_stepped : (a b : Result Stepped Refusal) → stepped_said a ≡ stepped_said b → a ≡ b
+one_stepped (Ok (stepped.Cleared p)) (Ok (stepped.Cleared p')) e = let fp : p ≡ p' = cc in cc
+one_stepped (Ok (stepped.Cleared p)) (Ok (stepped.Updated p')) e = let z : ◌≡◌ {A = ℕ} 0 1 = cc in absurd (omega arith)
+one_stepped (Ok (stepped.Cleared p)) (Ok stepped.End) e = let z : ◌≡◌ {A = ℕ} 0 1 = cc in absurd (omega arith)
+one_stepped (Ok (stepped.Cleared p)) (Err r') e = let z : ◌≡◌ {A = ℕ} 0 1 = cc in absurd (omega arith)
+one_stepped (Ok (stepped.Updated p)) (Ok (stepped.Cleared p')) e = let z : ◌≡◌ {A = ℕ} 0 1 = cc in absurd (omega arith)
+one_stepped (Ok (stepped.Updated p)) (Ok (stepped.Updated p')) e = let fp : p ≡ p' = cc in cc
+one_stepped (Ok (stepped.Updated p)) (Ok stepped.End) e = let z : ◌≡◌ {A = ℕ} 0 1 = cc in absurd (omega arith)
+one_stepped (Ok (stepped.Updated p)) (Err r') e = let z : ◌≡◌ {A = ℕ} 0 1 = cc in absurd (omega arith)
+one_stepped (Ok stepped.End) (Ok (stepped.Cleared p')) e = let z : ◌≡◌ {A = ℕ} 0 1 = cc in absurd (omega arith)
+one_stepped (Ok stepped.End) (Ok (stepped.Updated p')) e = let z : ◌≡◌ {A = ℕ} 0 1 = cc in absurd (omega arith)
+one_stepped (Ok stepped.End) (Ok stepped.End) e = refl
+one_stepped (Ok stepped.End) (Err r') e = let z : ◌≡◌ {A = ℕ} 0 1 = cc in absurd (omega arith)
+one_stepped (Err r) (Ok (stepped.Cleared p')) e = let z : ◌≡◌ {A = ℕ} 0 1 = cc in absurd (omega arith)
+one_stepped (Err r) (Ok (stepped.Updated p')) e = let z : ◌≡◌ {A = ℕ} 0 1 = cc in absurd (omega arith)
+one_stepped (Err r) (Ok stepped.End) e = let z : ◌≡◌ {A = ℕ} 0 1 = cc in absurd (omega arith)
+one_stepped (Err r) (Err r') e = let fr : r ≡ r' = refusal_one r r' cc in cc
 
-pub one_recovered : (a b : Recovered) → recovered_said a ≡ recovered_said b → a ≡ b
-one_recovered recovered.Nothing recovered.Nothing e = refl
-one_recovered recovered.Nothing recovered.Stale e = let z : ◌≡◌ {A = ℕ} 0 1 = cc in absurd (omega arith)
-one_recovered recovered.Nothing recovered.Applied e = let z : ◌≡◌ {A = ℕ} 0 1 = cc in absurd (omega arith)
-one_recovered recovered.Nothing (recovered.Refused r') e = let z : ◌≡◌ {A = ℕ} 0 1 = cc in absurd (omega arith)
-one_recovered recovered.Stale recovered.Nothing e = let z : ◌≡◌ {A = ℕ} 0 1 = cc in absurd (omega arith)
-one_recovered recovered.Stale recovered.Stale e = refl
-one_recovered recovered.Stale recovered.Applied e = let z : ◌≡◌ {A = ℕ} 0 1 = cc in absurd (omega arith)
-one_recovered recovered.Stale (recovered.Refused r') e = let z : ◌≡◌ {A = ℕ} 0 1 = cc in absurd (omega arith)
-one_recovered recovered.Applied recovered.Nothing e = let z : ◌≡◌ {A = ℕ} 0 1 = cc in absurd (omega arith)
-one_recovered recovered.Applied recovered.Stale e = let z : ◌≡◌ {A = ℕ} 0 1 = cc in absurd (omega arith)
-one_recovered recovered.Applied recovered.Applied e = refl
-one_recovered recovered.Applied (recovered.Refused r') e = let z : ◌≡◌ {A = ℕ} 0 1 = cc in absurd (omega arith)
-one_recovered (recovered.Refused r) recovered.Nothing e = let z : ◌≡◌ {A = ℕ} 0 1 = cc in absurd (omega arith)
-one_recovered (recovered.Refused r) recovered.Stale e = let z : ◌≡◌ {A = ℕ} 0 1 = cc in absurd (omega arith)
-one_recovered (recovered.Refused r) recovered.Applied e = let z : ◌≡◌ {A = ℕ} 0 1 = cc in absurd (omega arith)
-one_recovered (recovered.Refused r) (recovered.Refused r') e = let fr : r ≡ r' = refusal_one r r' cc in cc
+pub one_recovered : (a b : Result Recovered Refusal) → recovered_said a ≡ recovered_said b → a ≡ b
+one_recovered (Ok recovered.Nothing) (Ok recovered.Nothing) e = refl
+one_recovered (Ok recovered.Nothing) (Ok recovered.Stale) e = let z : ◌≡◌ {A = ℕ} 0 1 = cc in absurd (omega arith)
+one_recovered (Ok recovered.Nothing) (Ok recovered.Applied) e = let z : ◌≡◌ {A = ℕ} 0 1 = cc in absurd (omega arith)
+one_recovered (Ok recovered.Nothing) (Err r') e = let z : ◌≡◌ {A = ℕ} 0 1 = cc in absurd (omega arith)
+one_recovered (Ok recovered.Stale) (Ok recovered.Nothing) e = let z : ◌≡◌ {A = ℕ} 0 1 = cc in absurd (omega arith)
+one_recovered (Ok recovered.Stale) (Ok recovered.Stale) e = refl
+one_recovered (Ok recovered.Stale) (Ok recovered.Applied) e = let z : ◌≡◌ {A = ℕ} 0 1 = cc in absurd (omega arith)
+one_recovered (Ok recovered.Stale) (Err r') e = let z : ◌≡◌ {A = ℕ} 0 1 = cc in absurd (omega arith)
+one_recovered (Ok recovered.Applied) (Ok recovered.Nothing) e = let z : ◌≡◌ {A = ℕ} 0 1 = cc in absurd (omega arith)
+one_recovered (Ok recovered.Applied) (Ok recovered.Stale) e = let z : ◌≡◌ {A = ℕ} 0 1 = cc in absurd (omega arith)
+one_recovered (Ok recovered.Applied) (Ok recovered.Applied) e = refl
+one_recovered (Ok recovered.Applied) (Err r') e = let z : ◌≡◌ {A = ℕ} 0 1 = cc in absurd (omega arith)
+one_recovered (Err r) (Ok recovered.Nothing) e = let z : ◌≡◌ {A = ℕ} 0 1 = cc in absurd (omega arith)
+one_recovered (Err r) (Ok recovered.Stale) e = let z : ◌≡◌ {A = ℕ} 0 1 = cc in absurd (omega arith)
+one_recovered (Err r) (Ok recovered.Applied) e = let z : ◌≡◌ {A = ℕ} 0 1 = cc in absurd (omega arith)
+one_recovered (Err r) (Err r') e = let fr : r ≡ r' = refusal_one r r' cc in cc

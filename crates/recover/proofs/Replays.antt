@@ -1,15 +1,13 @@
 -- Replay's tests, one after the other; and the image that an answer leaves. Assumes nothing.
 use mathlib.Core.Path.{◌≡◌, refl, sym, ap, ap₂, ◌∙◌}
-use mathlib.Core.Logic.{◌⊎◌, ⊎_elim}
 use mathlib.Core.Bool.{Bool, true, false, cond}
-use mathlib.Core.List.{List, [], ◌∷◌}
+use mathlib.Core.List.{List}
 use Prim.Native.Nat.{ℕ}
 use native.Mathlib.Omega.{arith}
 use lib.Dec.{eqb}
 use lib.ListN.{length}
-use types.Run.{OneOf}
-use denote.Enum.Declared.{tag_of}
 use borrow.Author.Tests.{eq-eqb, ne_eqb}
+use Rattle.std.specs.Prelude.{Ok}
 use Rattle.answers.specs.Answers.{Answer, given, refused}
 use Rattle.ht_file.specs.Places.{image_fits, if_table}
 use Rattle.ht_file.proofs.Laws.{table_unfit}
@@ -19,7 +17,6 @@ use Rattle.recover.specs.declared.Expected.{Expected}
 use Rattle.recover.specs.Replay.{Did, nothing, stale, applied, check_answer, of_store, by_sync, after_start, replay_tests, image_by, recovered_said}
 use Rattle.recover.specs.declared.Recovered.{Recovered}
 use Rattle.recover.specs.declared.Recovered.TheVariants as R
-use Rattle.recover.specs.contracts.Recovered as RecoveredT
 
 -- "26, log of another store, after 7 and before stale"; another sync number, a bad entry, and neither
 module _ (rule : AfterEnd) (n : ℕ) (log : List ℕ) (s : ℕ) (want : Expected) (hashes : ℕ) where
@@ -93,11 +90,7 @@ applied_told rule n image log want hashes ok =
     go false p z s c q e = let y : ◌≡◌ {A = ℕ} 0 1 = cc in absurd (omega arith)
 
 -- every other answer leaves the image
-pub others_leave : (r : Recovered) (image after : List ℕ) → OneOf (0 ∷ 1 ∷ 3 ∷ []) (tag_of RecoveredT.the_type r) → image ≡ image_by (recovered_said r) image after
-others_leave R.Nothing image after o = refl
-others_leave R.Stale image after o = refl
-others_leave R.Applied image after o = absurd (none 2 refl o)
-  where
-    none : (t : ℕ) → t ≡ 2 → (t ≡ 0) ⊎ ((t ≡ 1) ⊎ (t ≡ 3)) → ⊥
-    none t z = ⊎_elim (λ (x : t ≡ 0). omega arith) (⊎_elim (λ (x : t ≡ 1). omega arith) (λ (x : t ≡ 3). omega arith))
-others_leave (R.Refused k) image after o = refl
+pub others_leave : (did : Recovered) (image made : List ℕ) → (did ≡ R.Applied → ⊥) → image ≡ image_by (recovered_said (Ok did)) image made
+others_leave R.Nothing image made o = refl
+others_leave R.Stale image made o = refl
+others_leave R.Applied image made o = absurd (o refl)

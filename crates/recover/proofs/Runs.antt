@@ -1,7 +1,6 @@
 -- The run over a log that was checked: each entry's step is taken, so that k steps make replay of the first k entries,
 -- and the second reading does not refuse. Assumes nothing.
 use mathlib.Core.Path.{◌≡◌, refl, sym, ap, ap₂, ◌∙◌, subst}
-use mathlib.Core.Logic.{⊎_elim}
 use mathlib.Core.Bool.{Bool, true, false, cond}
 use mathlib.Core.List.{List, [], ◌∷◌, ◌++◌, append-nil}
 use Prim.Native.Nat.{ℕ, suc, ◌+◌, ◌≤◌, ◌<◌, zero-le}
@@ -11,8 +10,6 @@ use lib.Dec.{ltb}
 use lib.ListN.{length, get_or, take, drop, take-append-drop}
 use lib.Seq.{take-add, drop-drop, get_or-drop}
 use borrow.Author.Tests.{ltb-true}
-use types.Run.{OneOf}
-use denote.Enum.Declared.{tag_of}
 use Rattle.answers.specs.Answers.{Answer, given, refused, accepted}
 use Rattle.ht_file.specs.Places.{image_fits}
 use Rattle.ht_file.proofs.Laws.{both_hold}
@@ -22,11 +19,8 @@ use Rattle.wal.specs.declared.AfterEnd.{AfterEnd}
 use Rattle.wal.proofs.Endings.{same_entries}
 use Rattle.wal_read.proofs.ReadLaws.{moves, read_entry_lem, read_end, read_stop}
 use Rattle.recover.specs.Places.{Step, with_hashes, entry_gives, replayed, stepped}
-use Rattle.recover.specs.Replay.{bucket_of, all_inside, one_update, updates_in, after_entries, check_answer, steps_of, Went, cleared, updated, at_end, went_to, step_answer, step_image, stepped_said, hashes_fit, check_of}
+use Rattle.recover.specs.Replay.{bucket_of, all_inside, one_update, updates_in, after_entries, check_answer, steps_of, Went, cleared, updated, at_end, went_to, step_answer, step_image, hashes_fit, check_of}
 use Rattle.recover.specs.Calls.{Stand, moved_by, called}
-use Rattle.recover.specs.declared.Stepped.{Stepped}
-use Rattle.recover.specs.declared.Stepped.TheVariants as S
-use Rattle.recover.specs.contracts.Stepped as SteppedT
 use Rattle.recover.proofs.Demand3.{replayed_none, replayed-snoc, replayed-length}
 use Rattle.recover.proofs.Steps.{step_taken, by_next_lem, image_by_lem}
 
@@ -196,25 +190,18 @@ module _ (rule : AfterEnd) (n : ℕ) (log hashes table image : List ℕ) (at use
           let y : ◌≡◌ {A = ℕ} 0 1 = cc in absurd (omega arith)
       go (stopped k) h = absurd (no_stop k h)
 
-  -- the step applied no entry: it stands at the end, and all is applied
-  pub at_the_end : (r : Stepped) → stepped_said r ≡ step_answer rule n image (edition_at log) log at → OneOf (1 ∷ 2 ∷ 3 ∷ []) (tag_of SteppedT.the_type r) → OneOf (0 ∷ 2 ∷ 3 ∷ []) (tag_of SteppedT.the_type r)
-      → step_image rule n image (edition_at log) log at (get_or hashes used 0) ≡ replayed n (steps_of log hashes) table
-  at_the_end r a o q = go (next_by rule (edition_at log) log at) refl
+  -- the step stands at the end, and all is applied
+  pub at_the_end : given at_end ≡ step_answer rule n image (edition_at log) log at → step_image rule n image (edition_at log) log at (get_or hashes used 0) ≡ replayed n (steps_of log hashes) table
+  at_the_end a = go (next_by rule (edition_at log) log at) refl
     where
-      not_went : (e : Entry) (p : ℕ) (x : Stepped) → stepped_said x ≡ given (went_to e p) → OneOf (1 ∷ 2 ∷ 3 ∷ []) (tag_of SteppedT.the_type x) → OneOf (0 ∷ 2 ∷ 3 ∷ []) (tag_of SteppedT.the_type x) → ⊥
-      not_went (clear b) p (S.Cleared k) z u v = ⊎_elim (λ (y : 0 ≡ 1). omega arith) (⊎_elim (λ (y : 0 ≡ 2). omega arith) (λ (y : 0 ≡ 3). omega arith)) u
-      not_went (update id ws ns el b) p (S.Cleared k) z u v = let y : ◌≡◌ {A = ℕ} 0 1 = cc in omega arith
-      not_went (clear b) p (S.Updated k) z u v = let y : ◌≡◌ {A = ℕ} 0 1 = cc in omega arith
-      not_went (update id ws ns el b) p (S.Updated k) z u v = ⊎_elim (λ (y : 1 ≡ 0). omega arith) (⊎_elim (λ (y : 1 ≡ 2). omega arith) (λ (y : 1 ≡ 3). omega arith)) v
-      not_went (clear b) p S.End z u v = let y : ◌≡◌ {A = ℕ} 0 1 = cc in omega arith
-      not_went (update id ws ns el b) p S.End z u v = let y : ◌≡◌ {A = ℕ} 0 1 = cc in omega arith
-      not_went (clear b) p (S.Refused k) z u v = let y : ◌≡◌ {A = ℕ} 0 1 = cc in omega arith
-      not_went (update id ws ns el b) p (S.Refused k) z u v = let y : ◌≡◌ {A = ℕ} 0 1 = cc in omega arith
+      not_went : (e : Entry) (p : ℕ) → given (went_to e p) ≡ given at_end → ⊥
+      not_went (clear b) p z = let y : ◌≡◌ {A = ℕ} 0 1 = cc in omega arith
+      not_went (update id ws ns el b) p z = let y : ◌≡◌ {A = ℕ} 0 1 = cc in omega arith
 
       go : (x : Next) → next_by rule (edition_at log) log at ≡ x → step_image rule n image (edition_at log) log at (get_or hashes used 0) ≡ replayed n (steps_of log hashes) table
       go (next e p) h =
           let s = step_taken rule n image (edition_at log) log at (get_or hashes used 0) fits e p h (entry_inside e p h).0 in
-          absurd (not_went e p r (a ∙ sym s.0) o q)
+          absurd (not_went e p (s.0 ∙ sym a))
       go ended h =
           image_by_lem rule n image (edition_at log) log at (get_or hashes used 0) fits ended h ∙ st.made ∙ ap (λ (l : List Step). replayed n l table) (ended_left h).0
       go (stopped k) h = absurd (no_stop k h)
@@ -261,3 +248,7 @@ module _ (rule : AfterEnd) (n : ℕ) (log hashes table image : List ℕ) (at use
       go (next e p) h = ap accepted (sym (step_taken rule n image (edition_at log) log at (get_or hashes used 0) fits e p h (entry_inside e p h).0).0)
       go ended h = ap accepted (by_next_lem rule n image (edition_at log) log at (get_or hashes used 0) fits ended h)
       go (stopped q) h = absurd (no_stop q h)
+
+  -- no step is refused
+  pub not_refused : (k : ℕ) → refused k ≡ step_answer rule n image (edition_at log) log at → ⊥
+  not_refused k e = let z : false ≡ true = ap accepted e ∙ call_accepted in let y : ◌≡◌ {A = ℕ} 0 1 = cc in omega arith

@@ -1,8 +1,7 @@
 -- One entry applied: what its step answers, and that the bytes written are those of the definition. Assumes nothing.
 use mathlib.Core.Path.{◌≡◌, refl, sym, ap, ap₂, ◌∙◌}
-use mathlib.Core.Logic.{◌⊎◌, ⊎_elim}
 use mathlib.Core.Bool.{Bool, true, false, cond, ◌&&◌, ◌||◌}
-use mathlib.Core.List.{List, [], ◌∷◌}
+use mathlib.Core.List.{List}
 use Prim.Native.Nat.{ℕ, ◌+◌, ◌-◌, ◌≤◌, ◌<◌}
 use native.Mathlib.Nat.{lt_of_not-le}
 use native.Mathlib.Decide.{dec_le, ℕ_discrete}
@@ -11,10 +10,7 @@ use lib.Dec.{eqb, ltb}
 use lib.ListN.{length, get_or, set, take, drop, length-set}
 use lib.Seq.{get_or-set_same, get_or-set_other, get_or-take, get_or-drop}
 use borrow.Author.Tests.{eq-eqb, ne_eqb, le-leb, lt-leb, lt-ltb, le-ltb}
-use types.Run.{OneOf}
-use denote.Enum.Declared.{tag_of}
 use Rattle.answers.specs.Answers.{Answer, given, refused, accepted}
-use Rattle.answers.specs.Refusals.{number_of}
 use Rattle.blocks.specs.Blocks.{put}
 use Rattle.blocks.proofs.Laws.{put_in, put_left, put_right, put-length, tabulate-length, tabulate-get_or, tabulate_is}
 use Rattle.ht_file.specs.Places.{image_fits, image_length, page_start, if_table}
@@ -22,16 +18,12 @@ use Rattle.ht_file.proofs.Laws.{table_unfit}
 use Rattle.meta_map.specs.Tags.{full_tag}
 use Rattle.wal.specs.Log.{Entry, clear, update}
 use Rattle.wal.specs.Reader.{Next, next, ended, stopped, next_by}
-use Rattle.wal_read.specs.Head.{head_of, head_said}
-use Rattle.wal_read.specs.declared.Head.{Head}
-use Rattle.wal_read.specs.declared.Head.TheVariants as head
-use Rattle.wal_read.specs.contracts.Head as HeadT
+use Rattle.wal_read.specs.Head.{the_end, a_refusal, head_of}
 use Rattle.wal_read.proofs.ReadLaws.{head_end, head_stop}
 use Rattle.wal.specs.declared.AfterEnd.{AfterEnd}
 use Rattle.wal.specs.declared.Edition.{Edition}
 use Rattle.recover.specs.Places.{Step, entry_names, entry_gives, names, gives, in_page, page_named, page_gives, page_after, stepped}
-use Rattle.recover.specs.Replay.{bucket_of, Went, went_to, by_next, step_answer, step_by, step_image}
-use Rattle.recover.specs.InnerStops.{step_stop}
+use Rattle.recover.specs.Replay.{bucket_of, Went, at_end, went_to, by_next, step_answer, step_by, step_image}
 
 -- ---- the answer, test by test
 module _ (rule : AfterEnd) (n : ℕ) (image : List ℕ) (ed : Edition) (log : List ℕ) (at h : ℕ) where
@@ -67,21 +59,12 @@ module _ (rule : AfterEnd) (n : ℕ) (image : List ℕ) (ed : Edition) (log : Li
           sym (image_by_lem (next e p) q ∙ ap (λ (b : Bool). cond (accepted (cond b (given (went_to e p)) (refused 9))) (step_by n (next e p) h image) image) t),
         )
 
-    -- where the reading stops
-    pub step_stop_lem : (x : Head) → head_said x ≡ head_of (next_by rule ed log at) → OneOf (1 ∷ 2 ∷ 3 ∷ []) (tag_of HeadT.the_type x) → OneOf (0 ∷ 2 ∷ 3 ∷ []) (tag_of HeadT.the_type x)
-        → (step_stop (head_said x) ≡ step_answer rule n image ed log at) × (image ≡ step_image rule n image ed log at h)
-    step_stop_lem (head.Clear b p) e o q = absurd (none 0 refl o)
-      where
-        none : (t : ℕ) → t ≡ 0 → (t ≡ 1) ⊎ ((t ≡ 2) ⊎ (t ≡ 3)) → ⊥
-        none t z = ⊎_elim (λ (y : t ≡ 1). omega arith) (⊎_elim (λ (y : t ≡ 2). omega arith) (λ (y : t ≡ 3). omega arith))
-    step_stop_lem (head.Update b c p) e o q = absurd (none 1 refl q)
-      where
-        none : (t : ℕ) → t ≡ 1 → (t ≡ 0) ⊎ ((t ≡ 2) ⊎ (t ≡ 3)) → ⊥
-        none t z = ⊎_elim (λ (y : t ≡ 0). omega arith) (⊎_elim (λ (y : t ≡ 2). omega arith) (λ (y : t ≡ 3). omega arith))
-    step_stop_lem head.End e o q =
-        let s = head_end (next_by rule ed log at) e in (sym (by_next_lem ended s), sym (image_by_lem ended s))
-    step_stop_lem (head.Refused r) e o q =
-        let s = head_stop (next_by rule ed log at) (number_of r) e in (sym (by_next_lem (stopped (number_of r)) s), sym (image_by_lem (stopped (number_of r)) s))
+    -- where the reading stops: at the end, or by a refusal
+    pub step_end : the_end ≡ head_of (next_by rule ed log at) → (given at_end ≡ step_answer rule n image ed log at) × (image ≡ step_image rule n image ed log at h)
+    step_end e = let s = head_end (next_by rule ed log at) e in (sym (by_next_lem ended s), sym (image_by_lem ended s))
+
+    pub step_refused : (k : ℕ) → a_refusal k ≡ head_of (next_by rule ed log at) → (refused k ≡ step_answer rule n image ed log at) × (image ≡ step_image rule n image ed log at h)
+    step_refused k e = let s = head_stop (next_by rule ed log at) k e in (sym (by_next_lem (stopped k) s), sym (image_by_lem (stopped k) s))
 
 -- ---- the bytes: what is equal at each place to the definition is it
 stepped_is : (n : ℕ) (s : Step) (image out : List ℕ) → length out ≡ length image → ((j : ℕ) → j < length image → get_or out j 0 ≡ cond (names n s j) (gives n s j) (get_or image j 0)) → out ≡ stepped n s image

@@ -1,5 +1,4 @@
 pub mod Places
 pub mod Replay
 pub mod Calls
-pub mod InnerStops
 pub mod InnerPage

@@ -1,7 +1,8 @@
 -- 01, 'Replay' and its order, and 02, W-207 and W-208: what replay answers, by what it wants after end, and the image it leaves. Assumes nothing.
-use Rattle.std.specs.Prelude.{◌≡◌, ◌⊎◌, Bool, true, false, cond, ◌&&◌, List, [], ◌∷◌, ◌++◌, ℕ, ◌+◌, ◌<◌, ltb, eqb, length, get_or, take}
+use Rattle.std.specs.Prelude.{◌≡◌, ◌⊎◌, Bool, true, false, cond, ◌&&◌, List, [], ◌∷◌, ◌++◌, ℕ, ◌+◌, ◌<◌, ltb, eqb, length, get_or, take, Result, Ok, Err}
 use Rattle.answers.specs.Answers.{Answer, given, refused, accepted}
 use Rattle.answers.specs.Refusals.{number_of}
+use Rattle.answers.specs.declared.Refusal.{Refusal}
 use Rattle.blocks.specs.Blocks.{same_bytes}
 use Rattle.ht_file.specs.Places.{image_fits, if_table}
 use Rattle.wal.specs.Log.{Entry, clear, update}
@@ -123,17 +124,17 @@ unfoldable pub step_image : AfterEnd → ℕ → List ℕ → Edition → List �
 step_image rule n image ed log at h = cond (accepted (step_answer rule n image ed log at)) (step_by n (next_by rule ed log at) h image) image
 
 -- what each case of the code's answers says
-abbrev pub stepped_said : Stepped → Answer Went
-stepped_said (S.Cleared p) = given (cleared p)
-stepped_said (S.Updated p) = given (updated p)
-stepped_said S.End = given at_end
-stepped_said (S.Refused r) = refused (number_of r)
+abbrev pub stepped_said : Result Stepped Refusal → Answer Went
+stepped_said (Ok (S.Cleared p)) = given (cleared p)
+stepped_said (Ok (S.Updated p)) = given (updated p)
+stepped_said (Ok S.End) = given at_end
+stepped_said (Err r) = refused (number_of r)
 
-abbrev pub recovered_said : Recovered → Answer Did
-recovered_said R.Nothing = given nothing
-recovered_said R.Stale = given stale
-recovered_said R.Applied = given applied
-recovered_said (R.Refused r) = refused (number_of r)
+abbrev pub recovered_said : Result Recovered Refusal → Answer Did
+recovered_said (Ok R.Nothing) = given nothing
+recovered_said (Ok R.Stale) = given stale
+recovered_said (Ok R.Applied) = given applied
+recovered_said (Err r) = refused (number_of r)
 
 -- "accepted under its own sync number", and for edition two "with equal seeds as a premise": what replay expects of the log of a start
 pub record Own (start : Start) (want : Expected) : Type 0 where

@@ -5,7 +5,7 @@
 #![tactic(auto)]
 
 ghost use Rattle.std.specs.Prelude.{◌≡◌, true, false, [], ◌∷◌, ◌++◌, ◌+◌, ◌*◌, ◌≤◌, length, get_or};
-ghost use Rattle.answers.specs.Answers.{given, outcome_said};
+ghost use Rattle.answers.specs.Answers.{given, answer_of};
 ghost use Rattle.blocks.specs.Blocks.{tabulate};
 ghost use Rattle.ht_file.specs.Places.{image_fits};
 ghost use Rattle.page_diff.specs.Diff.{reserved, count_of};
@@ -13,13 +13,11 @@ ghost use Rattle.page_diff.specs.Pack.{unpacked_byte};
 ghost use Rattle.wal.specs.Log.{update_body};
 ghost use Rattle.wal.specs.Reader.{diff_at, nodes_from};
 ghost use Rattle.wal.specs.declared.AfterEnd.TheVariants.{Zeros, Tolerant};
-ghost use Rattle.wal_read.specs.Head.{head_said};
 ghost use Rattle.recover.specs.Places.{replayed};
 ghost use Rattle.recover.specs.Replay.{of_store, check_answer, after_start, step_answer, step_image, replay_tests, replay_answer, replay_image, steps_of, stepped_said, recovered_said};
-ghost use Rattle.recover.specs.InnerStops.{check_stop, step_stop};
 ghost use Rattle.recover.specs.InnerPage.{page_by};
 
-use answers::{Number, Outcome, Refusal};
+use answers::Refusal;
 use ht_file::PAGE_SIZE;
 use meta_map::TOMBSTONE;
 use page_diff::Diff;
@@ -39,7 +37,6 @@ pub enum Recovered {
     Nothing,
     Stale,
     Applied,
-    Refused(Refusal),
 }
 
 // What one step did: an entry applied, with the position of the next; or it stands at the end.
@@ -48,53 +45,44 @@ pub enum Stepped {
     Cleared(usize),
     Updated(usize),
     End,
-    Refused(Refusal),
 }
 
 // Whether a whole log, after its start, can be applied to a table of n buckets with so many hashes, by what is wanted
 // after end, which is looked at once.
-fn check_log(log: &[u8], n: usize, hashes: usize, rule: AfterEnd) -> Outcome
-    ensures { outcome_said result ≡ check_answer rule n log.now hashes }
+fn check_log(log: &[u8], n: usize, hashes: usize, rule: AfterEnd) -> Result<(), Refusal>
+    ensures { answer_of result ≡ check_answer rule n log.now hashes }
 {
     let edition = wal_read::edition_of(log);
     let mut at = wal::start_size(edition);
     let mut updates: usize = 0;
     loop {
-        let head = wal_read::head_by(log, at, edition, rule);
-        if let Head::Clear { bucket, next } = head {
-            if n as u64 <= bucket {
-                return Outcome::Refused(Refusal::BucketOutside);
+        let head = wal_read::head_by(log, at, edition, rule)?;
+        match head {
+            Head::Clear { bucket, next } => {
+                if n as u64 <= bucket {
+                    return Err(Refusal::BucketOutside);
+                }
+                at = next;
             }
-            at = next;
-        } else {
-            let Head::Update {
+            Head::Update {
                 bucket,
                 count: _,
                 next,
-            } = head
-            else {
-                return stopped_check(head, updates, hashes);
-            };
-            if n as u64 <= bucket {
-                return Outcome::Refused(Refusal::BucketOutside);
+            } => {
+                if n as u64 <= bucket {
+                    return Err(Refusal::BucketOutside);
+                }
+                updates += 1;
+                at = next;
             }
-            updates += 1;
-            at = next;
+            Head::End => {
+                if hashes != updates {
+                    return Err(Refusal::LengthUnfit);
+                }
+                return Ok(());
+            }
         }
     }
-}
-
-// The check where the reading stops: the refusal there, or at the end the count of hashes.
-fn stopped_check(head: Head, updates: usize, hashes: usize) -> Outcome
-    ensures { outcome_said result ≡ check_stop (head_said head) updates hashes }
-{
-    if let Head::Refused(why) = head {
-        return Outcome::Refused(why);
-    }
-    if hashes != updates {
-        return Outcome::Refused(Refusal::LengthUnfit);
-    }
-    Outcome::Done
 }
 
 // Writes a tag, lent alone.
@@ -129,18 +117,13 @@ fn write_slots(page: &mut [u8], d: Diff, log: &[u8], from: usize)
 {
     let mut c = 0;
     let mut left = d;
-    loop {
-        let next = page_diff::next_slot(left);
-        let s = next.slot;
-        if page_diff::NODES_PER_PAGE <= s {
-            return;
-        }
+    while let Some((s, rest)) = page_diff::next_slot(left) {
         let node = blocks::block_32(log, from + 32 * c);
         let a = 32 * s;
         let e = a + 32;
         write_node(&mut page[a..e], node);
         c += 1;
-        left = next.rest;
+        left = rest;
     }
 }
 
@@ -149,8 +132,8 @@ fn apply_page(page: &mut [u8], log: &[u8], body: usize, count: usize)
     requires { (length page.old ≡ 4096) × (reserved (diff_at log.now body) ≡ false) × (count ≡ count_of (diff_at log.now body)) × (body + update_body count ≤ length log.now) }
     ensures { page.new ≡ page_by log.now body count page.old }
 {
-    let read = page_diff::from_bytes(blocks::block_16(log, body + wal::DIFF_AT));
-    let d = read.diff;
+    // The head has read the diff already, so it is not refused.
+    let d = page_diff::from_bytes(blocks::block_16(log, body + wal::DIFF_AT)).unwrap();
     write_slots(page, d, log, body + wal::NODES_AT);
     let elided = blocks::block_8(log, body + wal::NODES_AT + 32 * count);
     let id = blocks::block_32(log, body);
@@ -170,37 +153,38 @@ fn apply_at(
     at: usize,
     hash: u64,
     rule: AfterEnd,
-) -> Stepped
+) -> Result<Stepped, Refusal>
     requires { image_fits n (length image.old) ≡ true }
     ensures { (stepped_said result ≡ step_answer rule n image.old edition log.now at) × (image.new ≡ step_image rule n image.old edition log.now at hash) }
 {
-    let head = wal_read::head_by(log, at, edition, rule);
-    if let Head::Clear { bucket, next } = head {
-        if n as u64 <= bucket {
-            return Stepped::Refused(Refusal::BucketOutside);
+    let head = wal_read::head_by(log, at, edition, rule)?;
+    match head {
+        Head::Clear { bucket, next } => {
+            if n as u64 <= bucket {
+                return Err(Refusal::BucketOutside);
+            }
+            let b = bucket as usize;
+            write_tag(&mut image[b..b + 1], TOMBSTONE);
+            Ok(Stepped::Cleared(next))
         }
-        let b = bucket as usize;
-        write_tag(&mut image[b..b + 1], TOMBSTONE);
-        return Stepped::Cleared(next);
+        Head::Update {
+            bucket,
+            count,
+            next,
+        } => {
+            if n as u64 <= bucket {
+                return Err(Refusal::BucketOutside);
+            }
+            let b = bucket as usize;
+            write_tag(&mut image[b..b + 1], meta_map::full_entry(hash));
+            let a = ht_file::page_start(n, b);
+            let e = a + PAGE_SIZE;
+            let body = next - (wal::UPDATE_BODY + 32 * count);
+            apply_page(&mut image[a..e], log, body, count);
+            Ok(Stepped::Updated(next))
+        }
+        Head::End => Ok(Stepped::End),
     }
-    let Head::Update {
-        bucket,
-        count,
-        next,
-    } = head
-    else {
-        return stopped_step(head);
-    };
-    if n as u64 <= bucket {
-        return Stepped::Refused(Refusal::BucketOutside);
-    }
-    let b = bucket as usize;
-    write_tag(&mut image[b..b + 1], meta_map::full_entry(hash));
-    let a = ht_file::page_start(n, b);
-    let e = a + PAGE_SIZE;
-    let body = next - (wal::UPDATE_BODY + 32 * count);
-    apply_page(&mut image[a..e], log, body, count);
-    Stepped::Updated(next)
 }
 
 // Applies the entry at a position of a log of an edition to the image: a clear writes its bucket's tag, an update its
@@ -214,13 +198,10 @@ pub fn apply_by(
     at: usize,
     hash: u64,
     rule: AfterEnd,
-) -> Stepped
+) -> Result<Stepped, Refusal>
     ensures { (stepped_said result ≡ step_answer rule n image.old edition log.now at) × (image.new ≡ step_image rule n image.old edition log.now at hash) }
 {
-    let fit = ht_file::check_image(n, image.len());
-    if let Outcome::Refused(why) = fit {
-        return Stepped::Refused(why);
-    }
+    ht_file::check_image(n, image.len())?;
     apply_at(image, n, log, edition, at, hash, rule)
 }
 
@@ -232,7 +213,7 @@ pub fn apply_entry(
     edition: Edition,
     at: usize,
     hash: u64,
-) -> Stepped
+) -> Result<Stepped, Refusal>
     ensures { (stepped_said result ≡ step_answer Zeros n image.old edition log.now at) × (image.new ≡ step_image Zeros n image.old edition log.now at hash) }
 {
     apply_by(image, n, log, edition, at, hash, AfterEnd::Zeros)
@@ -246,20 +227,10 @@ pub fn apply_entry_tolerant(
     edition: Edition,
     at: usize,
     hash: u64,
-) -> Stepped
+) -> Result<Stepped, Refusal>
     ensures { (stepped_said result ≡ step_answer Tolerant n image.old edition log.now at) × (image.new ≡ step_image Tolerant n image.old edition log.now at hash) }
 {
     apply_by(image, n, log, edition, at, hash, AfterEnd::Tolerant)
-}
-
-// The step where the reading stops: the refusal there, or the end.
-fn stopped_step(head: Head) -> Stepped
-    ensures { stepped_said result ≡ step_stop (head_said head) }
-{
-    if let Head::Refused(why) = head {
-        return Stepped::Refused(why);
-    }
-    Stepped::End
 }
 
 // Applies every entry of a log that was checked for this table; what follows its end was looked at then.
@@ -272,15 +243,17 @@ fn run(image: &mut [u8], n: usize, log: &[u8], hashes: &[u64])
     let mut used: usize = 0;
     loop {
         let hash = hash_at(hashes, used);
-        let step = apply_at(image, n, log, edition, at, hash, AfterEnd::Tolerant);
-        if let Stepped::Cleared(next) = step {
-            at = next;
-        } else {
-            let Stepped::Updated(next) = step else {
-                return;
-            };
-            at = next;
-            used += 1;
+        match apply_at(image, n, log, edition, at, hash, AfterEnd::Tolerant) {
+            Ok(Stepped::Cleared(next)) => {
+                at = next;
+            }
+            Ok(Stepped::Updated(next)) => {
+                at = next;
+                used += 1;
+            }
+            Ok(Stepped::End) => return,
+            // No step of a log that was checked is refused.
+            Err(_) => return,
         }
     }
 }
@@ -314,21 +287,18 @@ fn check_started(
     want: Expected,
     hashes: usize,
     rule: AfterEnd,
-) -> Recovered
+) -> Result<Recovered, Refusal>
     ensures { recovered_said result ≡ after_start (given found) log.now want (check_answer rule n log.now hashes) }
 {
     let seed = want.seed;
     if !of_store(log, seed) {
-        return Recovered::Refused(Refusal::OtherStore);
+        return Err(Refusal::OtherStore);
     }
     if found != want.sync as u64 {
-        return Recovered::Stale;
+        return Ok(Recovered::Stale);
     }
-    let checked = check_log(log, n, hashes, rule);
-    match checked {
-        Outcome::Done => Recovered::Applied,
-        Outcome::Refused(why) => Recovered::Refused(why),
-    }
+    check_log(log, n, hashes, rule)?;
+    Ok(Recovered::Applied)
 }
 
 // What replay answers, told before a byte is written: 1, nothing, 5, 7, 26, stale, the first bad entry, 27 by what is
@@ -340,21 +310,15 @@ pub fn check_by(
     want: Expected,
     hashes: usize,
     rule: AfterEnd,
-) -> Recovered
+) -> Result<Recovered, Refusal>
     ensures { recovered_said result ≡ replay_tests rule n image_len log.now want hashes }
 {
-    let fit = ht_file::check_image(n, image_len);
-    if let Outcome::Refused(why) = fit {
-        return Recovered::Refused(why);
-    }
+    ht_file::check_image(n, image_len)?;
     if log.len() == 0 {
-        return Recovered::Nothing;
+        return Ok(Recovered::Nothing);
     }
-    let start = wal_read::set(log);
-    match start {
-        Number::Is(found) => check_started(log, n, found, want, hashes, rule),
-        Number::Refused(why) => Recovered::Refused(why),
-    }
+    let found = wal_read::set(log)?;
+    check_started(log, n, found, want, hashes, rule)
 }
 
 // The same, with zeros wanted after end.
@@ -364,7 +328,7 @@ pub fn check_replay(
     log: &[u8],
     want: Expected,
     hashes: usize,
-) -> Recovered
+) -> Result<Recovered, Refusal>
     ensures { recovered_said result ≡ replay_tests Zeros n image_len log.now want hashes }
 {
     check_by(image_len, n, log, want, hashes, AfterEnd::Zeros)
@@ -377,7 +341,7 @@ pub fn check_replay_tolerant(
     log: &[u8],
     want: Expected,
     hashes: usize,
-) -> Recovered
+) -> Result<Recovered, Refusal>
     ensures { recovered_said result ≡ replay_tests Tolerant n image_len log.now want hashes }
 {
     check_by(image_len, n, log, want, hashes, AfterEnd::Tolerant)
@@ -392,19 +356,24 @@ pub fn recover_by(
     want: Expected,
     hashes: &[u64],
     rule: AfterEnd,
-) -> Recovered
+) -> Result<Recovered, Refusal>
     ensures { (recovered_said result ≡ replay_answer rule n image.old log.now want hashes.now) × (image.new ≡ replay_image rule n image.old log.now want hashes.now) }
 {
-    let answer = check_by(image.len(), n, log, want, hashes.len(), rule);
-    let Recovered::Applied = answer else {
-        return answer;
-    };
-    run(image, n, log, hashes);
-    answer
+    let did = check_by(image.len(), n, log, want, hashes.len(), rule)?;
+    if let Recovered::Applied = did {
+        run(image, n, log, hashes);
+    }
+    Ok(did)
 }
 
 // Replay; zeros are wanted after end.
-pub fn recover(image: &mut [u8], n: usize, log: &[u8], want: Expected, hashes: &[u64]) -> Recovered
+pub fn recover(
+    image: &mut [u8],
+    n: usize,
+    log: &[u8],
+    want: Expected,
+    hashes: &[u64],
+) -> Result<Recovered, Refusal>
     ensures { (recovered_said result ≡ replay_answer Zeros n image.old log.now want hashes.now) × (image.new ≡ replay_image Zeros n image.old log.now want hashes.now) }
 {
     recover_by(image, n, log, want, hashes, AfterEnd::Zeros)
@@ -417,7 +386,7 @@ pub fn recover_tolerant(
     log: &[u8],
     want: Expected,
     hashes: &[u64],
-) -> Recovered
+) -> Result<Recovered, Refusal>
     ensures { (recovered_said result ≡ replay_answer Tolerant n image.old log.now want hashes.now) × (image.new ≡ replay_image Tolerant n image.old log.now want hashes.now) }
 {
     recover_by(image, n, log, want, hashes, AfterEnd::Tolerant)
