@@ -5,6 +5,7 @@ use mathlib.Core.List.{List, [], ◌∷◌, ◌++◌, map}
 use Prim.Native.Nat.{ℕ, ◌+◌, ◌-◌, ◌*◌, ◌^◌}
 use native.Mathlib.Omega.{arith}
 use lib.ListN.{replicate}
+use Rattle.std.specs.Prelude.{Ok, Err}
 use Rattle.answers.specs.Answers.{Answer, given, refused}
 use Rattle.answers.specs.declared.Refusal.TheVariants.{LengthUnfit, BucketOutside, BucketUnfit, NoRoom}
 use Rattle.blocks.specs.Blocks.{block, put, flat, all_zero}
@@ -29,9 +30,7 @@ use Rattle.sync.specs.declared.Change.{Change}
 use Rattle.sync_parts.specs.declared.Where.{Where}
 use Rattle.sync_parts.specs.declared.Where.TheVariants.{Known, Fresh as FreshPage, Cell}
 use Rattle.sync.specs.declared.SyncState.{SyncState}
-use Rattle.sync.specs.declared.Taken.TheVariants as taken
-use Rattle.sync.specs.declared.Run.TheVariants as run
-use Rattle.sync.specs.declared.Synced.TheVariants as synced
+use Rattle.sync.specs.declared.SyncRefusal.TheVariants.{Refused, RefusedAt}
 
 -- three buckets with these tags, where the path of hash 0 is 0 1 for ever; one tag page, whose mark is 9; some cells; a
 -- page of log of 6s
@@ -176,8 +175,8 @@ pub placed : map place_of (Known 7 ∷ FreshPage ∷ Cell 7 ∷ []) ≡ record {
 placed = refl
 
 -- each case of the code's answers
-pub said : (map taken_said (taken.At 1 2 ∷ taken.Refused BucketUnfit ∷ []) ≡ given (1, 2) ∷ refused 14 ∷ []) × (map run_said (run.On (state_of 3 hit_limit (open_at One 5) 2) ∷ run.Refused NoRoom (open_at One 77) ∷ run.RefusedAt 1 BucketOutside ∷ []) ≡ on (state_of 3 hit_limit (open_at One 5) 2) ∷ unbegun 13 (open_at One 77) ∷ stopped 1 9 ∷ [])
-    × (map synced_said (synced.Done 2 4096 ∷ synced.Refused LengthUnfit ∷ synced.RefusedAt 1 NoRoom ∷ []) ≡ said_done 2 4096 ∷ said_refused 2 ∷ said_refused_at 1 13 ∷ [])
+pub said : (map taken_said (Ok record { bucket = 1; page = 2 } ∷ Err BucketUnfit ∷ []) ≡ given (1, 2) ∷ refused 14 ∷ []) × (map run_said (Ok (state_of 3 hit_limit (open_at One 5) 2) ∷ Err (Refused NoRoom) ∷ Err (RefusedAt 1 BucketOutside) ∷ []) ≡ on (state_of 3 hit_limit (open_at One 5) 2) ∷ unbegun 13 ∷ stopped 1 9 ∷ [])
+    × (map synced_said (Ok record { occupied = 2; length = 4096 } ∷ Err (Refused LengthUnfit) ∷ Err (RefusedAt 1 NoRoom) ∷ []) ≡ said_done 2 4096 ∷ said_refused 2 ∷ said_refused_at 1 13 ∷ [])
 said = (refl, refl, refl)
 
 -- a log that clears bucket 0 and then updates it, replayed over a table of zeros: all that the laws of labels ask for

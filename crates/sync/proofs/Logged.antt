@@ -6,7 +6,6 @@ use Prim.Native.Nat.{ℕ, ◌+◌, ◌*◌, ◌<◌, ◌^◌}
 use native.Mathlib.Omega.{arith}
 use lib.Dec.{eqb}
 use lib.ListN.{length, take}
-use denote.Enum.Declared.{tag_of}
 use borrow.Author.Tests.{eqb-true}
 use Rattle.answers.specs.Answers.{Answer, given, refused, accepted}
 use Rattle.answers.proofs.Laws.{given_one, given_refused}
@@ -23,7 +22,6 @@ use Rattle.wal.specs.Run.{Wide as WideUpdate, Run, begun, with_clear, WideStart,
 use Rattle.wal.specs.Writer.{begin_answer, begin_log, finish_answer, finish_log}
 use Rattle.wal.specs.declared.Writer.{Writer}
 use Rattle.wal.specs.declared.Writer.TheVariants.{Fresh}
-use Rattle.wal.specs.contracts.Writer as WriterT
 use Rattle.wal.proofs.RoundTrip.{run_made, finish_fits, round_trip_start, round_trip}
 use Rattle.wal_write.specs.Calls.{room_in, clear_writer, page_update, page_update_writer}
 use Rattle.wal_write.proofs.PageUpdates.{run_page}
@@ -53,7 +51,7 @@ module _ (log₀ : List ℕ) (start : Start) (st : SyncState) (m : Mem) (page : 
   Went e = Run log₀ start (state_by (given e) st c).writer (mem_by (given e) st m page c).log (es ++ (entry_by c page e ∷ []))
 
   opened : Opened w
-  opened = ap (tag_of WriterT.the_type) (run_made log₀ start run).is_open
+  opened = rw (run_made log₀ start run).is_open refl
 
   small : (b : ℕ) → b < st.n → tags_fit st.n (length m.tags) ≡ true → b < 2 ^ 64
   small b h f = omega (arith, tags_fit_facts st.n (length m.tags) f)

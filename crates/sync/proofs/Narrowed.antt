@@ -11,7 +11,9 @@ use lib.Dec.{ltb, eqb}
 use lib.ListN.{length, get_or}
 use lib.Seq.{get_or-set_same}
 use borrow.Author.Tests.{ltb-true, eqb-true, eqb-false, eq-eqb, lt-ltb, ne_eqb}
+use Rattle.std.specs.Prelude.{Result, Ok}
 use Rattle.answers.specs.Answers.{Answer, given, refused}
+use Rattle.answers.specs.declared.Refusal.{Refusal}
 use Rattle.answers.proofs.Laws.{given_one, given_refused}
 use Rattle.ht_file.specs.Places.{tag_pages, tags_fit, if_tags}
 use Rattle.ht_file.proofs.Laws.{tags_fit_facts}
@@ -28,16 +30,15 @@ use Rattle.sync_parts.specs.Parts.{Named, bucket, none, named_by, tag_fits}
 use Rattle.sync.specs.Change.{where_of, Mem, Does, updates, allocates, does_with, by_named, does_of, Effect, cleared, updated, allocated, after_does, effect_of, mem_by, state_by, page_number, taken_said, StepPromise}
 use Rattle.sync.specs.declared.Change.{Change}
 use Rattle.sync.specs.declared.SyncState.{SyncState}
-use Rattle.sync.specs.declared.StepAnswer.{StepAnswer}
-use Rattle.sync.specs.declared.Taken.TheVariants as taken
+use Rattle.sync.specs.declared.Taken.{Taken}
 use Rattle.sync.proofs.Accepted.{after_cleared, after_updated, after_allocated, accepted_change}
 use Rattle.sync.proofs.Plans.{Told, as_update, as_new, does_told, does_clears}
 use Rattle.sync.proofs.TagKinds.{cleared_own}
 
 -- ---- what it gives: of one call of `step`, by its promise
-module _ (st : SyncState) (m : Mem) (page : List ℕ) (c : Change) (r : StepAnswer) (after : Mem) (p : StepPromise st m page c r after) where
+module _ (st : SyncState) (m : Mem) (page : List ℕ) (c : Change) (r : Result Taken Refusal) (st' : SyncState) (after : Mem) (p : StepPromise st m page c r st' after) where
   -- a clearing change that is taken has cleared the bucket that it answers
-  pub taken_clears : marked c.diff.words 127 ≡ true → (b q : ℕ) → r.taken ≡ taken.At b q → effect_of st m page c ≡ given (cleared b)
+  pub taken_clears : marked c.diff.words 127 ≡ true → (b q : ℕ) → r ≡ Ok record { bucket = b; page = q } → effect_of st m page c ≡ given (cleared b)
   taken_clears clearing b q e = go (effect_of st m page c) refl (sym p.taken ∙ ap taken_said e)
     where
       plan : (d : Does) → does_of st.n m.tags m.cells c ≡ given d → Told st.n m.tags c.hash (marked c.diff.words 127) d
@@ -58,7 +59,7 @@ module _ (st : SyncState) (m : Mem) (page : List ℕ) (c : Change) (r : StepAnsw
           absurd (no_new (plan allocates (after_allocated st m c (does_of st.n m.tags m.cells c) x (accepted_change st m page c (allocated x) h).2).0))
 
   -- of a clearing change, by what the call answers: it took bucket b
-  module _ (clearing : marked c.diff.words 127 ≡ true) (b q : ℕ) (answered : r.taken ≡ taken.At b q) where
+  module _ (clearing : marked c.diff.words 127 ≡ true) (b q : ℕ) (answered : r ≡ Ok record { bucket = b; page = q }) where
     done : effect_of st m page c ≡ given (cleared b)
     done = taken_clears clearing b q answered
 
@@ -192,12 +193,12 @@ as_before st m page c e ok =
     (sym same ∙ ok, ap (λ (a : Answer Effect). state_by a st c) same, ap (λ (a : Answer Effect). mem_by a st m page c) same)
 
 -- such a clear, of the call `step`: where nothing else is wrong it answers 14, and all that is lent stays
-pub other_refused : (st : SyncState) (m : Mem) (page : List ℕ) (c : Change) (r : StepAnswer) (after : Mem) → StepPromise st m page c r after
+pub other_refused : (st : SyncState) (m : Mem) (page : List ℕ) (c : Change) (r : Result Taken Refusal) (st' : SyncState) (after : Mem) → StepPromise st m page c r st' after
     → OtherTag st.n m.tags m.cells c → marked c.diff.words 126 ≡ false → tags_fit st.n (length m.tags) ≡ true
     → (eqb (length page) 4096 && eqb (length m.marks) (tag_pages st.n)) ≡ true → (k : ℕ) (ed : Edition) → st.writer ≡ Open k ed
-    → (taken_said r.taken ≡ refused 14) × (after ≡ m)
+    → (taken_said r ≡ refused 14) × (after ≡ m)
 unfolding effect_of
-other_refused st m page c r after p o spare fits lent k ed is_open =
+other_refused st m page c r st' after p o spare fits lent k ed is_open =
     let d : Answer Does = does_of st.n m.tags m.cells c in
     let answer : effect_of st m page c ≡ refused 14 =
     ap₂ (λ (t u : Bool). cond t (cond u (if_open st.writer (after_does st m c d)) (refused 2)) (refused 1)) fits lent

@@ -1,21 +1,15 @@
 -- What a change is to do, test by test. Assumes nothing.
 use mathlib.Core.Path.{◌≡◌, refl, sym, ap, ap₂, ◌∙◌, subst}
-use mathlib.Core.Logic.{◌⊎◌, ⊎_elim}
 use mathlib.Core.Bool.{Bool, true, false, cond, ◌||◌}
 use mathlib.Core.List.{List, [], ◌∷◌}
 use Prim.Native.Nat.{ℕ, ◌<◌}
 use native.Mathlib.Omega.{arith}
 use lib.Dec.{ltb}
 use lib.ListN.{get_or}
-use types.Run.{OneOf}
-use denote.Enum.Declared.{tag_of}
 use borrow.Author.Tests.{ltb-true}
-use Rattle.answers.specs.Answers.{Answer, given, refused, truth_said}
-use Rattle.answers.specs.declared.Truth.{Truth}
-use Rattle.answers.specs.declared.Truth.TheVariants as truth
+use Rattle.answers.specs.Answers.{Answer, given, refused}
 use Rattle.answers.proofs.Laws.{given_one, given_refused}
-use Rattle.answers.specs.contracts.Truth as TruthT
-use Rattle.page_diff.specs.Diff.{marked, reserved, ask_answer}
+use Rattle.page_diff.specs.Diff.{marked, reserved}
 use Rattle.sync_parts.specs.Parts.{Named, bucket, none, named_by, tag_fits}
 use Rattle.sync.specs.Change.{where_of, place_of, Does, clears, updates, allocates, does_with, by_named, does_of}
 use Rattle.sync.specs.declared.Change.{Change}
@@ -27,18 +21,6 @@ pub where_place : (w : Where) → where_of (place_of w) ≡ w
 where_place (place.Known b) = refl
 where_place place.Fresh = refl
 where_place (place.Cell i) = refl
-
--- asking after bit 126: it holds, or it does not
-pub spare_holds : (ws : List ℕ) (t : Truth) → truth_said t ≡ ask_answer ws 126 → t ≡ truth.Holds → marked ws 126 ≡ true
-spare_holds ws t e h = let z : given true ≡ given (marked ws 126) = sym (ap truth_said h) ∙ e in sym (cc)
-
-pub spare_fails : (ws : List ℕ) (t : Truth) → truth_said t ≡ ask_answer ws 126 → OneOf (1 ∷ 2 ∷ []) (tag_of TruthT.the_type t) → marked ws 126 ≡ false
-spare_fails ws truth.Holds e o = absurd (out 0 refl o)
-  where
-    out : (t : ℕ) → t ≡ 0 → (t ≡ 1) ⊎ (t ≡ 2) → ⊥
-    out t z = ⊎_elim (λ (p : t ≡ 1). omega arith) (λ (p : t ≡ 2). omega arith)
-spare_fails ws truth.Fails e o = let z : false ≡ marked ws 126 = cc in sym z
-spare_fails ws (truth.Refused r) e o = let z : ◌≡◌ {A = ℕ} 0 1 = cc in absurd (omega arith)
 
 -- the plan by its tests
 module _ (n : ℕ) (tags cells : List ℕ) (c : Change) where

@@ -6,6 +6,7 @@ use mathlib.Core.List.{List, [], ◌∷◌}
 use Prim.Native.Nat.{ℕ, ◌+◌, ◌<◌}
 use native.Mathlib.Omega.{arith}
 use lib.ListN.{length, get_or, take, length-replicate, get_or-replicate}
+use Rattle.std.specs.Prelude.{Result, Ok, Err}
 use Rattle.answers.specs.Answers.{Answer, given, refused}
 use Rattle.answers.specs.Refusals.{number_of}
 use Rattle.answers.specs.declared.Refusal.{Refusal}
@@ -16,6 +17,7 @@ use Rattle.wal.specs.declared.AfterEnd.{AfterEnd}
 use Rattle.wal.specs.declared.Start.{Start}
 use Rattle.wal.specs.Log.{Entry}
 use Rattle.wal.specs.Reader.{start_of, read_log}
+use Rattle.wal.specs.declared.Writer.{Writer}
 use Rattle.wal.specs.declared.Writer.TheVariants.{Fresh}
 use Rattle.recover.specs.Replay.{applied, one_update, updates_in, replay_answer, Own}
 use Rattle.recover.specs.declared.Expected.{Expected}
@@ -24,10 +26,10 @@ use Rattle.sync.specs.Change.{AllWide, Mem, clears, updates, allocates, does_of,
 use Rattle.sync.specs.Sync.{page_of, Came, through, refused_at, or_rest, change_at, change_mem, all_of, entries_by, entries_of, hashes_of, before_changes, start_mem, start_state, SyncSaid, said_done, said_by, said_if, synced_said, came, left, sync_says, sync_mem, widths_by, SyncPromise}
 use Rattle.sync.specs.declared.Change.{Change}
 use Rattle.sync.specs.declared.SyncState.{SyncState}
-use Rattle.sync.specs.declared.SyncAnswer.{SyncAnswer}
+use Rattle.sync.specs.declared.SyncRefusal.{SyncRefusal}
+use Rattle.sync.specs.declared.SyncRefusal.TheVariants as why
 use Rattle.sync.specs.declared.SyncStart.{SyncStart}
 use Rattle.sync.specs.declared.Synced.{Synced}
-use Rattle.sync.specs.declared.Synced.TheVariants as synced
 use Rattle.sync.proofs.Accepted.{after_cleared, after_updated, after_allocated, accepted_change}
 use Rattle.sync.proofs.Logged.{done_left, done_start, done_back}
 use Rattle.sync.proofs.Occupied.{done_occupied}
@@ -79,7 +81,7 @@ all_hashed pages (c ∷ cs) m j st i e = go (effect_of st m (page_of pages j) c)
         ∙ ap₂ ◌+◌ (sym (one_hash st m (page_of pages j) c x h)) (rest (mem_by (given x) st m (page_of pages j) c) (j + 1) (state_by (given x) st c) i (rw h at q)))
 
 -- ---- by its answer: refused, and not at a change
-module _ (s : SyncStart) (m : Mem) (pages : List ℕ) (cs : List Change) (r : SyncAnswer) (after : Mem) (p : SyncPromise s m pages cs r after) where
+module _ (s : SyncStart) (m : Mem) (pages : List ℕ) (cs : List Change) (w : Writer) (r : Result Synced SyncRefusal) (w' : Writer) (after : Mem) (p : SyncPromise s m pages cs w r w' after) where
   abbrev n : ℕ
   n = s.n
 
@@ -87,27 +89,27 @@ module _ (s : SyncStart) (m : Mem) (pages : List ℕ) (cs : List Change) (r : Sy
   start = s.log_start
 
   -- what it said, where the answer is known
-  said : (x : Synced) → r.synced ≡ x → sync_says n m pages cs start ≡ synced_said x
+  said : (x : Result Synced SyncRefusal) → r ≡ x → sync_says n m pages cs start ≡ synced_said x
   said x e = sym p.says ∙ ap synced_said e
 
   -- "A refusal answers its number and leaves all lent memory": 1, 2 or begin's 13, with the writer as it was
-  pub sync_refused_leaves : (why : Refusal) → r.synced ≡ synced.Refused why → OfStart (number_of why) × (after ≡ m) × (r.writer ≡ s.writer)
-  sync_refused_leaves why e =
-      let b = refused_before n m pages cs start (number_of why) (said (synced.Refused why) e) in
-      (start_number n m pages (length cs) (number_of why) b.0, p.memory ∙ b.1, p.writer ∙ b.2 s.writer)
+  pub sync_refused_leaves : (q : Refusal) → r ≡ Err (why.Refused q) → OfStart (number_of q) × (after ≡ m) × (w' ≡ w)
+  sync_refused_leaves q e =
+      let b = refused_before n m pages cs start (number_of q) (said (Err (why.Refused q)) e) in
+      (start_number n m pages (length cs) (number_of q) b.0, p.memory ∙ b.1, p.writer ∙ b.2 w)
 
   -- "a sync refused at change j keeps the effects of changes before j and its marks, answers j, and its writer becomes fresh": its number is one
   -- of a change's, and the memory is that of the first j changes
-  pub sync_refused_at : (j : ℕ) (why : Refusal) → r.synced ≡ synced.RefusedAt j why
-      → (j < length cs) × OfChange (number_of why) × ((came n m pages (take j cs) start).came ≡ through j) × (after ≡ left n m pages (take j cs) start) × (r.writer ≡ Fresh)
-  sync_refused_at j why e =
-      let q = refused_at_lem n m pages cs start j (number_of why) (said (synced.RefusedAt j why) e) in
-      (q.within, q.number, q.came_to, p.memory ∙ q.memory, p.writer ∙ q.fresh s.writer)
+  pub sync_refused_at : (j : ℕ) (q : Refusal) → r ≡ Err (why.RefusedAt j q)
+      → (j < length cs) × OfChange (number_of q) × ((came n m pages (take j cs) start).came ≡ through j) × (after ≡ left n m pages (take j cs) start) × (w' ≡ Fresh)
+  sync_refused_at j q e =
+      let x = refused_at_lem n m pages cs start j (number_of q) (said (Err (why.RefusedAt j q)) e) in
+      (x.within, x.number, x.came_to, p.memory ∙ x.memory, p.writer ∙ x.fresh w)
 
   -- ---- by its answer: done
-  module _ (o len : ℕ) (done : r.synced ≡ synced.Done o len) where
+  module _ (o len : ℕ) (done : r ≡ Ok record { occupied = o; length = len }) where
     says : sync_says n m pages cs start ≡ said_done o len
-    says = said (synced.Done o len) done
+    says = said (Ok record { occupied = o; length = len }) done
 
     widths : AllWide cs × (WideStart start)
     widths = subst (λ (x : SyncSaid). widths_by x cs start) (ap synced_said done) p.widths

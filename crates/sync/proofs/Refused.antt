@@ -16,8 +16,7 @@ use Rattle.blocks.proofs.Laws.{put-length}
 use Rattle.ht_file.specs.Places.{tags_fit, tag_pages}
 use Rattle.meta_map.specs.Tags.{full_tag}
 use Rattle.page_diff.specs.Diff.{marked, count_of}
-use Rattle.probe.specs.declared.Limit.{Limit}
-use Rattle.probe.specs.Path.{allocating}
+use Rattle.probe.specs.Path.{Limit, allocating}
 use Rattle.probe.proofs.Allocating.{refused_numbers}
 use Rattle.wal.specs.declared.Start.{Start}
 use Rattle.wal.specs.Log.{record_of, start_record, finished_length, clear_size, update_size, mark_size}
@@ -124,7 +123,7 @@ module _ (n : ℕ) (m : Mem) (pages : List ℕ) (cs : List Change) (start : Star
       let b = no_refusal (before_changes n m pages (length cs)) refl (came n m pages cs start).came refl e in (
         b,
         ap (λ (a : Answer (Unit {0})). kept_if a m (mem_of (left n m pages cs start).tags (left n m pages cs start).marks (left n m pages cs start).cells (log_after (came n m pages cs start).came (came n m pages cs start).state (left n m pages cs start)))) b,
-        λ w. ap (λ (a : Answer (Unit {0})). kept_if a w (writer_after (came n m pages cs start).came (came n m pages cs start).state (left n m pages cs start))) b,
+        λ w. ap (λ (a : Answer (Unit {0})). kept_if a w (writer_after (came n m pages cs start).came (came n m pages cs start).state (left n m pages cs start) w)) b,
       )
 
 -- ---- a refusal before the first change: "1, 2 .., 13 for begin"
@@ -328,5 +327,5 @@ module _ (n : ℕ) (m : Mem) (pages : List ℕ) (cs : List Change) (start : Star
         number = s.number;
         came_to = ap (λ (i : ℕ). (came n m pages (take i cs) start).came) (sym here) ∙ s.came_to ∙ ap through (sym s.place);
         memory = whole ∙ s.memory ∙ ap (λ (i : ℕ). left n m pages (take i cs) start) here;
-        fresh = λ w. ap₂ (λ (a : Answer (Unit {0})) (c : Came). kept_if a w (writer_after c st x)) q.0 q.1;
+        fresh = λ w. ap₂ (λ (a : Answer (Unit {0})) (c : Came). kept_if a w (writer_after c st x w)) q.0 q.1;
       }

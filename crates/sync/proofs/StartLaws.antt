@@ -4,11 +4,9 @@ use mathlib.Core.Bool.{Bool, true, cond}
 use mathlib.Core.List.{List, [], ◌∷◌}
 use Prim.Native.Nat.{ℕ, ◌*◌, ◌/◌, ◌≤◌, ◌<◌}
 use native.Mathlib.Omega.{arith}
-use mathlib.Core.Logic.{⊎_elim}
 use lib.ListN.{length, take, drop}
-use types.Run.{OneOf}
-use denote.Enum.Declared.{tag_of}
 use borrow.Author.Tests.{lt-ltb, le-ltb, eq-eqb, ne_eqb}
+use Rattle.std.specs.Prelude.{Result, Ok, Err}
 use Rattle.answers.specs.Answers.{Answer, given, refused}
 use Rattle.answers.specs.Refusals.{number_of}
 use Rattle.answers.specs.declared.Refusal.{Refusal}
@@ -17,20 +15,14 @@ use Rattle.ht_file.specs.Places.{tags_fit, tag_pages, if_table}
 use Rattle.ht_file.proofs.Laws.{table_unfit}
 use Rattle.wal.specs.Log.{start_record, start_size}
 use Rattle.wal.specs.Writer.{open_at, log_by, writer_by, begin_answer, begin_log, begin_writer}
-use Rattle.wal.specs.declared.Writer.{Writer}
 use Rattle.wal.specs.declared.Writer.TheVariants.{Fresh}
 use Rattle.wal.specs.Run.{WideStart}
 use Rattle.wal.specs.declared.Start.{Start}
 use Rattle.sync.specs.Change.{Mem, mem_of, Effect, effect_of, mem_by, state_by, page_number, taken_said}
-use Rattle.sync.specs.Sync.{page_of, came_by, Going, on, unbegun, stopped, run_said, going_by, change_at, change_mem, change_going, change_left, before_changes, start_mem, start_state, start_going, kept_if}
+use Rattle.sync.specs.Sync.{page_of, came_by, Going, on, stopped, going_by, change_at, change_mem, change_going, before_changes, start_mem, start_state, start_answer, kept_if}
 use Rattle.sync.specs.declared.Change.{Change}
 use Rattle.sync.specs.declared.SyncState.{SyncState}
 use Rattle.sync.specs.declared.Taken.{Taken}
-use Rattle.sync.specs.declared.Taken.TheVariants as taken
-use Rattle.sync.specs.contracts.Taken as TakenT
-use Rattle.sync.specs.declared.Run.{Run}
-use Rattle.sync.specs.declared.Run.TheVariants as run
-use Rattle.sync.specs.contracts.Run as RunT
 
 -- change j's page, where the pages reach that far and where they do not
 module _ (pages : List ℕ) (j : ℕ) where
@@ -41,37 +33,29 @@ module _ (pages : List ℕ) (j : ℕ) where
   page_none h = ap (λ (t : Bool). cond t (take 4096 (drop (4096 * j) pages)) []) (le-ltb j (length pages / 4096) h)
 
 -- ---- change j told on from its step
--- a sync that was refused stays as it is
-pub change_none : (m : Mem) (pages : List ℕ) (c : Change) (j : ℕ) (r : Run) → OneOf (1 ∷ 2 ∷ []) (tag_of RunT.the_type r)
-    → (run_said r ≡ change_going m pages c j (run_said r)) × (m ≡ change_left m pages c j (run_said r))
-change_none m pages c j (run.On st) o = absurd (⊎_elim (λ (e : 0 ≡ 1). omega arith) (λ (e : 0 ≡ 2). omega arith) o)
-change_none m pages c j (run.Refused r w) o = (refl, refl)
-change_none m pages c j (run.RefusedAt i r) o = (refl, refl)
-
 module _ (st : SyncState) (m : Mem) (pages page : List ℕ) (c : Change) (j : ℕ) (e : page ≡ page_of pages j) where
   refused_going : (a : Answer Effect) (k : ℕ) (s : SyncState) → refused k ≡ page_number st a → stopped j k ≡ going_by (came_by a j) s
   refused_going (given x) k s h = absurd (given_refused _ k (sym h))
   refused_going (refused i) k s h = ap (stopped j) (refused_one k i h)
 
-  given_going : (a : Answer Effect) (t : Taken) (s : SyncState) → OneOf (0 ∷ []) (tag_of TakenT.the_type t) → taken_said t ≡ page_number st a → on s ≡ going_by (came_by a j) s
-  given_going a (taken.Refused r) s o h = absurd (omega arith)
-  given_going (given x) (taken.At b p) s o h = refl
-  given_going (refused k) (taken.At b p) s o h = absurd (given_refused _ k h)
+  given_going : (a : Answer Effect) (t : Taken) (s : SyncState) → given (t.bucket, t.page) ≡ page_number st a → on s ≡ going_by (came_by a j) s
+  given_going (given x) t s h = refl
+  given_going (refused k) t s h = absurd (given_refused _ k h)
 
   -- the change, on its own page
   abbrev there : List ℕ → Going
   there p = going_by (came_by (effect_of st m p c) j) (state_by (effect_of st m p c) st c)
 
-  module _ (t : Taken) (said : taken_said t ≡ page_number st (effect_of st m page c)) where
-    pub change_refused : (r : Refusal) → t ≡ taken.Refused r → stopped j (number_of r) ≡ change_going m pages c j (on st)
+  module _ (t : Result Taken Refusal) (said : taken_said t ≡ page_number st (effect_of st m page c)) where
+    pub change_refused : (r : Refusal) → t ≡ Err r → stopped j (number_of r) ≡ change_going m pages c j st
     unfolding change_at
     change_refused r h =
         refused_going (effect_of st m page c) (number_of r) (state_by (effect_of st m page c) st c) (sym (ap taken_said h) ∙ said) ∙ ap there e
 
-    pub change_given : (s : SyncState) → s ≡ state_by (effect_of st m page c) st c → OneOf (0 ∷ []) (tag_of TakenT.the_type t) → on s ≡ change_going m pages c j (on st)
+    pub change_given : (s : SyncState) → s ≡ state_by (effect_of st m page c) st c → (x : Taken) → t ≡ Ok x → on s ≡ change_going m pages c j st
     unfolding change_at
-    change_given s state o =
-        given_going (effect_of st m page c) t s o said ∙ ap (going_by (came_by (effect_of st m page c) j)) state ∙ ap there e
+    change_given s state x h =
+        given_going (effect_of st m page c) x s (sym (ap taken_said h) ∙ said) ∙ ap (going_by (came_by (effect_of st m page c) j)) state ∙ ap there e
 
   pub change_mem_lem : (x : Mem) → x ≡ mem_by (effect_of st m page c) st m page c → x ≡ change_mem m pages c j st
   unfolding change_mem
@@ -101,19 +85,19 @@ module _ (n : ℕ) (t k l pages : List ℕ) (count : ℕ) where
   unfolding before_changes
   start_begin h p q = simp (h, eq-eqb (length pages) (4096 * count) p, eq-eqb (length k) (tag_pages n) q)
 
-  module _ (start : Start) (w : Writer) (wide : WideStart start) where
-    abbrev pub Begins : Going → Mem → Type 0
-    Begins g x = (g ≡ start_going before (start_state n m start) w) × ((x ≡ kept_if before m (start_mem m start)) × (WideStart start))
+  module _ (start : Start) (wide : WideStart start) where
+    abbrev pub Begins : Answer SyncState → Mem → Type 0
+    Begins g x = (g ≡ start_answer before (start_state n m start)) × ((x ≡ kept_if before m (start_mem m start)) × (WideStart start))
 
-    pub begin_refused : (j : ℕ) → before ≡ refused j → Begins (unbegun j w) m
+    pub begin_refused : (j : ℕ) → before ≡ refused j → Begins (refused j) m
     begin_refused j h = (
-      sym (ap (λ (a : Answer (Unit {0})). start_going a (start_state n m start) w) h),
+      sym (ap (λ (a : Answer (Unit {0})). start_answer a (start_state n m start)) h),
       (sym (ap (λ (a : Answer (Unit {0})). kept_if a m (start_mem m start)) h), wide),
     )
 
-    pub begin_given : (s : SyncState) (x : Mem) → before ≡ given tt → s ≡ start_state n m start → x ≡ start_mem m start → Begins (on s) x
+    pub begin_given : (s : SyncState) (x : Mem) → before ≡ given tt → s ≡ start_state n m start → x ≡ start_mem m start → Begins (given s) x
     begin_given s x h a b = (
-      ap on a ∙ sym (ap (λ (y : Answer (Unit {0})). start_going y (start_state n m start) w) h),
+      ap given a ∙ sym (ap (λ (y : Answer (Unit {0})). start_answer y (start_state n m start)) h),
       (b ∙ sym (ap (λ (y : Answer (Unit {0})). kept_if y m (start_mem m start)) h), wide),
     )
 

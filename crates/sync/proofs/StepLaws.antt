@@ -2,24 +2,23 @@
 use mathlib.Core.Path.{◌≡◌, refl, sym, ap, ap₂, ◌∙◌}
 use mathlib.Core.Bool.{true, false}
 use mathlib.Core.List.{List, [], ◌∷◌}
-use mathlib.Core.Logic.{⊎_elim}
 use Prim.Native.Nat.{ℕ, ◌+◌}
 use native.Mathlib.Omega.{arith}
 use lib.Dec.{eqb}
 use lib.ListN.{length}
-use types.Run.{OneOf}
-use denote.Enum.Declared.{tag_of}
 use borrow.Author.Tests.{eq-eqb, ne_eqb}
+use Rattle.std.specs.Prelude.{Result, Ok, Err}
 use Rattle.answers.specs.Answers.{Answer, given, refused}
+use Rattle.answers.specs.declared.Refusal.{Refusal}
 use Rattle.blocks.specs.Blocks.{put}
 use Rattle.ht_file.specs.Places.{tag_pages, tags_fit, bucket_page, if_table}
 use Rattle.ht_file.proofs.Laws.{table_unfit}
 use Rattle.page_diff.specs.Diff.{count_of, reserved}
 use Rattle.wal.specs.Log.{clear, record_of, clear_body, update_body, clear_size, update_size}
 use Rattle.wal.specs.Writer.{open_at, position, edition_of, if_open, clear_answer, record_log, record_writer}
+use Rattle.wal.specs.declared.Edition.{Edition}
 use Rattle.wal.specs.declared.Writer.{Writer}
 use Rattle.wal.specs.declared.Writer.TheVariants.{Fresh, Open, Finished}
-use Rattle.wal.specs.contracts.Writer as WriterT
 use Rattle.wal_write.specs.Calls.{room_in, clear_writer, clear_log, page_update, page_update_answer, page_update_writer, page_update_log}
 use Rattle.wal_write.proofs.CallLaws.{NotOpen, tested, taken, clear_tests, page_tests}
 use Rattle.sync.specs.Change.{where_of, Wide, Mem, mem_of, Does, clears, updates, allocates, does_of, Effect, bucket_of, after_does, effect_of, entry_by, size_by, tags_by, marks_by, cells_by, occupied_by, mem_by, state_of, state_by, page_number, taken_said, StepPromise}
@@ -27,21 +26,24 @@ use Rattle.sync.specs.InnerChange.{outlook_said}
 use Rattle.sync.specs.declared.Change.{Change}
 use Rattle.sync.specs.declared.SyncState.{SyncState}
 use Rattle.sync.specs.declared.Outlook.{Outlook}
-use Rattle.sync.specs.declared.StepAnswer.{StepAnswer}
+use Rattle.sync.specs.declared.Taken.{Taken}
 
--- what a `let .. else` tells after it
+-- the writer is open
 abbrev pub Opened : Writer → Type 0
-Opened w = OneOf (1 ∷ []) (tag_of WriterT.the_type w)
+Opened w = w ≡ open_at (edition_of w) (position w)
+
+pub opened : (w : Writer) (p : ℕ) (ed : Edition) → w ≡ Open p ed → Opened w
+opened w p ed e = rw e refl
 
 module _ {A : Type 0} (a : Answer A) where
   open_goes : (w : Writer) → Opened w → if_open w a ≡ a
-  open_goes Fresh o = absurd (omega arith)
+  open_goes Fresh o = absurd cc
   open_goes (Open p ed) o = refl
-  open_goes (Finished n) o = absurd (omega arith)
+  open_goes (Finished n) o = absurd cc
 
   closed_stops : (w : Writer) → NotOpen w → if_open w a ≡ refused 12
   closed_stops Fresh o = refl
-  closed_stops (Open p ed) o = absurd (⊎_elim (λ (e : 1 ≡ 0). omega arith) (λ (e : 1 ≡ 2). omega arith) o)
+  closed_stops (Open p ed) o = absurd (o p ed refl)
   closed_stops (Finished n) o = refl
 
 -- the two records that a change writes are taken where there is room
@@ -50,17 +52,17 @@ module _ (w : Writer) (l : List ℕ) where
   clear_taken o r = clear_tests l w ∙ go w o r
     where
       go : (v : Writer) → Opened v → room_in (length l) v clear_body ≡ true → tested l v true false clear_size (given (tt {0})) ≡ given (tt {0})
-      go Fresh o r = absurd (omega arith)
+      go Fresh o r = absurd cc
       go (Open p ed) o r = taken l (Open p ed) true false clear_size (given tt) ed p refl refl refl r
-      go (Finished n) o r = absurd (omega arith)
+      go (Finished n) o r = absurd cc
 
   pub page_taken : (ws page : List ℕ) → Opened w → length page ≡ 4096 → reserved ws ≡ false → room_in (length l) w (update_body (count_of ws)) ≡ true → page_update_answer l w ws page ≡ given tt
   page_taken ws page o k f r = page_tests l w ws page ∙ go w o r
     where
       go : (v : Writer) → Opened v → room_in (length l) v (update_body (count_of ws)) ≡ true → tested l v (eqb (length page) 4096) (reserved ws) (λ ed. update_size ed (count_of ws)) (given (tt {0})) ≡ given (tt {0})
-      go Fresh o r = absurd (omega arith)
+      go Fresh o r = absurd cc
       go (Open p ed) o r = taken l (Open p ed) (eqb (length page) 4096) (reserved ws) (λ ed. update_size ed (count_of ws)) (given tt) ed p refl (eq-eqb (length page) 4096 k) f r
-      go (Finished n) o r = absurd (omega arith)
+      go (Finished n) o r = absurd cc
 
   -- so this is the state, and this the log
   module _ (h : clear_answer l w ≡ given tt) where
@@ -111,26 +113,26 @@ module _ (st : SyncState) (t ks cs l page : List ℕ) (c : Change) where
   same_ahead (given (updates b)) = refl
   same_ahead (given allocates) = refl
 
-  pub step_ahead : tags_fit st.n (length t) ≡ true → length page ≡ 4096 → length ks ≡ tag_pages st.n → Opened st.writer → (o : Outlook) → outlook_said o ≡ after_does st (mem_of t [] cs l) c (does_of st.n t cs c) → effect ≡ outlook_said o
+  pub step_ahead : tags_fit st.n (length t) ≡ true → length page ≡ 4096 → length ks ≡ tag_pages st.n → Opened st.writer → (o : Result Outlook Refusal) → outlook_said o ≡ after_does st (mem_of t [] cs l) c (does_of st.n t cs c) → effect ≡ outlook_said o
   step_ahead h p k w o s = by_writer h p k ∙ open_goes ahead st.writer w ∙ sym (s ∙ same_ahead (does_of st.n t cs c))
 
   -- ---- what is left
-  abbrev pub Left : StepAnswer → Mem → Type 0
-  Left r m = StepPromise st (mem_of t ks cs l) page c r m
+  abbrev pub Left : Result Taken Refusal → SyncState → Mem → Type 0
+  Left r st' m = StepPromise st (mem_of t ks cs l) page c r st' m
 
-  pub refused_left : (k : ℕ) (r : StepAnswer) → effect ≡ refused k → taken_said r.taken ≡ refused k → r.state ≡ st → Wide c → Left r (mem_of t ks cs l)
-  refused_left k r e a b w =
+  pub refused_left : (k : ℕ) (r : Result Taken Refusal) → effect ≡ refused k → taken_said r ≡ refused k → Wide c → Left r st (mem_of t ks cs l)
+  refused_left k r e a w =
       record {
         taken = a ∙ sym (ap (page_number st) e);
-        state = b ∙ sym (ap (λ (x : Answer Effect). state_by x st c) e);
+        state = sym (ap (λ (x : Answer Effect). state_by x st c) e);
         memory = sym (ap (λ (x : Answer Effect). mem_by x st (mem_of t ks cs l) page c) e);
         wide = w;
       }
 
-  pub given_left : (e : Effect) (r : StepAnswer) (t' ks' cs' l' : List ℕ) → effect ≡ given e → taken_said r.taken ≡ given (bucket_of e, bucket_page st.n (bucket_of e))
-      → r.state ≡ state_of st.n st.limit (open_at (edition_of st.writer) (position st.writer + size_by (edition_of st.writer) c e)) (occupied_by e st.occupied) → t' ≡ tags_by e c.hash t → ks' ≡ marks_by e ks → cs' ≡ cells_by e (where_of c.place) cs
-      → l' ≡ put l (position st.writer) (record_of (edition_of st.writer) (entry_by c page e)) → Wide c → Left r (mem_of t' ks' cs' l')
-  given_left e r t' ks' cs' l' h a b et ek ec el w =
+  pub given_left : (e : Effect) (r : Result Taken Refusal) (st' : SyncState) (t' ks' cs' l' : List ℕ) → effect ≡ given e → taken_said r ≡ given (bucket_of e, bucket_page st.n (bucket_of e))
+      → st' ≡ state_of st.n st.limit (open_at (edition_of st.writer) (position st.writer + size_by (edition_of st.writer) c e)) (occupied_by e st.occupied) → t' ≡ tags_by e c.hash t → ks' ≡ marks_by e ks → cs' ≡ cells_by e (where_of c.place) cs
+      → l' ≡ put l (position st.writer) (record_of (edition_of st.writer) (entry_by c page e)) → Wide c → Left r st' (mem_of t' ks' cs' l')
+  given_left e r st' t' ks' cs' l' h a b et ek ec el w =
       record {
         taken = a ∙ sym (ap (page_number st) h);
         state = b ∙ sym (ap (λ (x : Answer Effect). state_by x st c) h);

@@ -1,29 +1,39 @@
 -- The whole sync, out of what its start, its changes and its end promise. The start is lent no cells and the end the log alone: what they say of
 -- the rest does not matter. Assumes nothing.
-use mathlib.Core.Path.{◌≡◌, refl, sym, ap, ◌∙◌, subst}
+use mathlib.Core.Path.{◌≡◌, refl, sym, ap, ap₂, ◌∙◌, subst}
 use mathlib.Core.List.{List, []}
 use Prim.Native.Nat.{ℕ}
 use lib.ListN.{length}
-use Rattle.answers.specs.Answers.{Answer, given, refused}
-use Rattle.wal.specs.Run.{WideStart}
+use Rattle.std.specs.Prelude.{Result, Ok, Err}
+use Rattle.answers.specs.Answers.{Answer, given, refused, answer_of}
+use Rattle.answers.specs.declared.Refusal.{Refusal}
+use Rattle.answers.specs.Refusals.{number_of}
+use Rattle.wal.specs.Writer.{finish_answer}
 use Rattle.wal.specs.declared.Start.{Start}
+use Rattle.wal.specs.declared.Writer.{Writer}
 use Rattle.sync.specs.Change.{AllWide, Mem, mem_of}
-use Rattle.sync.specs.Sync.{before_changes, start_mem, start_state, start_going, kept_if, said_if, came, left, Going, on, unbegun, going_by, end_said, end_log, end_writer, SyncSaid, said_done, said_refused, said_refused_at, sync_says, sync_mem, sync_writer, widths_by, SyncPromise, synced_said, BeginPromise, EndPromise, run_said}
+use Rattle.sync.specs.Sync.{CameTo, before_changes, start_mem, start_state, start_answer, kept_if, said_if, said_finish, came, left, Going, on, unbegun, stopped, going_by, walk_going, wide_on, end_said, end_log, end_writer, SyncSaid, said_done, said_refused, said_refused_at, sync_says, sync_mem, sync_writer, widths_by, SyncPromise, synced_said, BeginPromise, WalkPromise, EndPromise, run_said}
 use Rattle.sync.specs.declared.Change.{Change}
-use Rattle.sync.specs.declared.Run.{Run}
+use Rattle.sync.specs.declared.SyncRefusal.{SyncRefusal}
+use Rattle.sync.specs.declared.SyncRefusal.TheVariants as why
 use Rattle.sync.specs.declared.SyncStart.{SyncStart}
-use Rattle.sync.specs.declared.SyncAnswer.{SyncAnswer}
-use Rattle.sync.proofs.WalkLaws.{goes_on, goes_on_lem, goes_unbegun}
+use Rattle.sync.specs.declared.SyncState.{SyncState}
+use Rattle.sync.specs.declared.Synced.{Synced}
+use Rattle.sync.proofs.WalkLaws.{goes_on}
 
 -- the memory with these cells
 abbrev with_cells : List ℕ → Mem → Mem
 with_cells c x = mem_of x.tags x.marks c x.log
 
--- the widths, whatever is said
-said_widths : (x : SyncSaid) (cs : List Change) (start : Start) → AllWide cs → WideStart start → widths_by x cs start
-said_widths (said_done o l) cs start w h = (w, h)
-said_widths (said_refused k) cs start w h = tt
-said_widths (said_refused_at j k) cs start w h = tt
+-- the widths, whatever is said at the end
+ended_widths : (g : Going) (log : List ℕ) (cs : List Change) (start : Start) → wide_on g cs start → widths_by (end_said g log) cs start
+ended_widths (on st) log cs start h = go (finish_answer log st.writer)
+  where
+    go : (a : Answer ℕ) → widths_by (said_finish a st.occupied) cs start
+    go (given len) = h
+    go (refused k) = tt
+ended_widths (unbegun k) log cs start h = tt
+ended_widths (stopped j k) log cs start h = tt
 
 module _ (s : SyncStart) (t k c l pages : List ℕ) (cs : List Change) where
   abbrev m : Mem
@@ -35,56 +45,95 @@ module _ (s : SyncStart) (t k c l pages : List ℕ) (cs : List Change) where
   abbrev start : Start
   start = s.log_start
 
-  -- the memory of the start, which is lent no cells
+  -- the memory of the start, which is lent no cells; its tests do not look at them
   abbrev lent : Mem
   lent = mem_of t k [] l
 
+  abbrev tests : Answer (Unit {0})
+  tests = before_changes n m pages (length cs)
+
+  same_tests : before_changes n lent pages (length cs) ≡ tests
+  unfolding before_changes
+  same_tests = refl
+
   -- where the changes came to from the start, and what they left
-  abbrev g' : Going
-  g' = going_by (came n m pages cs start).came (came n m pages cs start).state
+  abbrev there : CameTo
+  there = came n m pages cs start
 
   abbrev z' : Mem
   z' = left n m pages cs start
 
-  -- what is said where the sync goes so, over this memory
-  abbrev Whole : Going → Mem → Type 0
-  Whole g z =
-      (end_said g z.log ≡ sync_says n m pages cs start) ×
-      ((end_writer g z.log ≡ sync_writer n m pages cs start s.writer) × (mem_of z.tags z.marks z.cells (end_log g z.log) ≡ sync_mem n m pages cs start))
+  abbrev Walked : Result SyncState SyncRefusal → Mem → Type 0
+  Walked r x = WalkPromise s m pages cs r x
 
-  -- by the answer to the tests
-  by_tests : (a : Answer (Unit {0})) → before_changes n lent pages (length cs) ≡ a
-      → (said_if a (end_said g' z'.log) ≡ sync_says n m pages cs start) × ((kept_if a s.writer (end_writer g' z'.log) ≡ sync_writer n m pages cs start s.writer) ×
-      (kept_if a m (mem_of z'.tags z'.marks z'.cells (end_log g' z'.log)) ≡ sync_mem n m pages cs start))
-  unfolding before_changes sync_says sync_writer sync_mem
-  by_tests a is = (
-    sym (ap (λ (b : Answer (Unit {0})). said_if b (end_said g' z'.log)) is),
-    (
-      sym (ap (λ (b : Answer (Unit {0})). kept_if b s.writer (end_writer g' z'.log)) is),
-      sym (ap (λ (b : Answer (Unit {0})). kept_if b m (mem_of z'.tags z'.marks z'.cells (end_log g' z'.log))) is),
-    ),
-  )
+  -- a start that is refused
+  pub not_begun : (q : Refusal) (k' l' : List ℕ) → BeginPromise s lent pages (length cs) (Err q) (mem_of t k' [] l') → Walked (Err (why.Refused q)) (mem_of t k' c l')
+  not_begun q k' l' b = go tests refl
+    where
+      go : (a : Answer (Unit {0})) → tests ≡ a → Walked (Err (why.Refused q)) (mem_of t k' c l')
+      go (given u) h = let z : refused (number_of q) ≡ start_answer (given u) (start_state n lent start) = b.0 ∙ ap (λ (x : Answer (Unit {0})). start_answer x (start_state n lent start)) (same_tests ∙ h) in absurd cc
+      go (refused i) h =
+          let z : refused (number_of q) ≡ start_answer (refused i) (start_state n lent start) = b.0 ∙ ap (λ (x : Answer (Unit {0})). start_answer x (start_state n lent start)) (same_tests ∙ h) in
+          let y : number_of q ≡ i = cc in
+          record {
+            going = ap unbegun y ∙ sym (ap (λ (x : Answer (Unit {0})). walk_going x there) h);
+            memory =
+                ap (with_cells c) b.1.0 ∙ ap (λ (x : Answer (Unit {0})). with_cells c (kept_if x lent (start_mem lent start))) (same_tests ∙ h)
+                ∙ sym (ap (λ (x : Answer (Unit {0})). kept_if x m z') h);
+            widths = tt;
+          }
 
-  by_start : (a : Answer (Unit {0})) → before_changes n lent pages (length cs) ≡ a → (x : Mem) → x ≡ with_cells c (kept_if a lent (start_mem lent start))
-      → (g : Going) (z : Mem) → goes_on x pages cs 0 (start_going a (start_state n lent start) s.writer) ≡ (g, z) → Whole g z
-  by_start (refused j) is x e g z walked =
-      let same : ◌≡◌ {A = Going × Mem} (unbegun j s.writer, m) (g, z) =
-      sym (goes_unbegun m pages cs 0 j s.writer) ∙ ap (λ (y : Mem). goes_on y pages cs 0 (unbegun j s.writer)) (sym e) ∙ walked in
-      subst (λ (p : Going × Mem). Whole p.0 p.1) same (by_tests (refused j) is)
-  by_start (given u) is x e g z walked =
-      let same : ◌≡◌ {A = Going × Mem} (g', z') (g, z) =
-      sym (goes_on_lem pages cs (start_mem m start) 0 (start_state n m start)) ∙ ap (λ (y : Mem). goes_on y pages cs 0 (on (start_state n m start))) (sym e) ∙ walked in
-      subst (λ (p : Going × Mem). Whole p.0 p.1) same (by_tests (given u) is)
+  -- a start that is not, and the changes after it
+  pub gone : (st : SyncState) (k' l' : List ℕ) → BeginPromise s lent pages (length cs) (Ok st) (mem_of t k' [] l')
+      → (r : Result SyncState SyncRefusal) (x : Mem) → goes_on (mem_of t k' c l') pages cs 0 st ≡ (run_said r, x) → wide_on (run_said r) cs start → Walked r x
+  gone st k' l' b r x walked wide = go tests refl
+    where
+      go : (a : Answer (Unit {0})) → tests ≡ a → Walked r x
+      go (refused i) h = let z : given st ≡ start_answer (refused i) (start_state n lent start) = b.0 ∙ ap (λ (x : Answer (Unit {0})). start_answer x (start_state n lent start)) (same_tests ∙ h) in absurd cc
+      go (given u) h =
+          let z : given st ≡ start_answer (given u) (start_state n lent start) = b.0 ∙ ap (λ (x : Answer (Unit {0})). start_answer x (start_state n lent start)) (same_tests ∙ h) in
+          let y : st ≡ start_state n m start = cc in
+          let e : mem_of t k' c l' ≡ start_mem m start = ap (with_cells c) b.1.0 ∙ ap (λ (x : Answer (Unit {0})). with_cells c (kept_if x lent (start_mem lent start))) (same_tests ∙ h) in
+          let same : ◌≡◌ {A = Going × Mem} (run_said r, x) (going_by there.came there.state, z') =
+          sym walked ∙ ap₂ (λ (v : Mem) (w : SyncState). goes_on v pages cs 0 w) e y in
+          record {
+            going = ap (λ (p : Going × Mem). p.0) same ∙ sym (ap (λ (x : Answer (Unit {0})). walk_going x there) h);
+            memory = ap (λ (p : Going × Mem). p.1) same ∙ sym (ap (λ (x : Answer (Unit {0})). kept_if x m z') h);
+            widths = wide;
+          }
 
-  pub whole : (k' l' : List ℕ) (r₀ r : Run) (z0 z1 z2 z3 : List ℕ) → BeginPromise s lent pages (length cs) r₀ (mem_of t k' [] l')
-      → goes_on (mem_of t k' c l') pages cs 0 (run_said r₀) ≡ (run_said r, mem_of z0 z1 z2 z3) → AllWide cs
-      → (a : SyncAnswer) (after : List ℕ) → EndPromise r z3 a after → SyncPromise s m pages cs a (mem_of z0 z1 z2 after)
-  whole k' l' r₀ r z0 z1 z2 z3 begun walked wide a after ended =
-      let w = by_start (before_changes n lent pages (length cs)) refl (mem_of t k' c l') (ap (with_cells c) begun.1.0) (run_said r) (mem_of z0 z1 z2 z3)
-      (ap (goes_on (mem_of t k' c l') pages cs 0) (sym begun.0) ∙ walked) in
-      record {
-        says = ended.0 ∙ w.0;
-        writer = ended.1.0 ∙ w.1.0;
-        memory = ap (mem_of z0 z1 z2) ended.1.1 ∙ w.1.1;
-        widths = said_widths (synced_said a.synced) cs start wide begun.1.1;
-      }
+  module _ (w : Writer) where
+    -- what is said where the sync goes so, over this memory
+    abbrev Whole : Going → Mem → Type 0
+    Whole g z =
+        (end_said g z.log ≡ sync_says n m pages cs start) ×
+        ((end_writer g z.log w ≡ sync_writer n m pages cs start w) × (mem_of z.tags z.marks z.cells (end_log g z.log) ≡ sync_mem n m pages cs start))
+
+    -- by the answer to the tests
+    by_tests : (a : Answer (Unit {0})) → tests ≡ a → Whole (walk_going a there) (kept_if a m z')
+    unfolding sync_says sync_writer sync_mem
+    by_tests (given u) is = (
+      sym (ap (λ (b : Answer (Unit {0})). said_if b (end_said (going_by there.came there.state) z'.log)) is),
+      (
+        sym (ap (λ (b : Answer (Unit {0})). kept_if b w (end_writer (going_by there.came there.state) z'.log w)) is),
+        sym (ap (λ (b : Answer (Unit {0})). kept_if b m (mem_of z'.tags z'.marks z'.cells (end_log (going_by there.came there.state) z'.log))) is),
+      ),
+    )
+    by_tests (refused j) is = (
+      sym (ap (λ (b : Answer (Unit {0})). said_if b (end_said (going_by there.came there.state) z'.log)) is),
+      (
+        sym (ap (λ (b : Answer (Unit {0})). kept_if b w (end_writer (going_by there.came there.state) z'.log w)) is),
+        sym (ap (λ (b : Answer (Unit {0})). kept_if b m (mem_of z'.tags z'.marks z'.cells (end_log (going_by there.came there.state) z'.log))) is),
+      ),
+    )
+
+    pub whole : (r : Result SyncState SyncRefusal) (x : Mem) → Walked r x → (a : Result Synced SyncRefusal) (w' : Writer) (after : List ℕ) → EndPromise r x.log w a w' after
+        → SyncPromise s m pages cs w a w' (mem_of x.tags x.marks x.cells after)
+    whole r x p a w' after e =
+        let v : Whole (run_said r) x = subst (λ (g : Going). Whole g x) (sym p.going) (subst (Whole (walk_going tests there)) (sym p.memory) (by_tests tests refl)) in
+        record {
+          says = e.0 ∙ v.0;
+          writer = e.1.0 ∙ v.1.0;
+          memory = ap (mem_of x.tags x.marks x.cells) e.1.1 ∙ v.1.1;
+          widths = subst (λ (y : SyncSaid). widths_by y cs start) (sym e.0) (ended_widths (run_said r) x.log cs start p.widths);
+        }

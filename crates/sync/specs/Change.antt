@@ -1,13 +1,13 @@
 -- 01, 'Sync': what one change does. Assumes nothing.
-use Rattle.std.specs.Prelude.{◌≡◌, Bool, true, false, cond, ◌&&◌, ◌||◌, List, [], ◌∷◌, ℕ, ◌+◌, ◌-◌, ◌/◌, ◌^◌, min, ltb, eqb, length, get_or, set}
+use Rattle.std.specs.Prelude.{◌≡◌, Bool, true, false, cond, ◌&&◌, ◌||◌, List, [], ◌∷◌, ℕ, ◌+◌, ◌-◌, ◌/◌, ◌^◌, min, ltb, eqb, length, get_or, set, Result, Ok, Err, Option}
 use Rattle.answers.specs.Answers.{Answer, given, refused}
 use Rattle.answers.specs.Refusals.{number_of}
+use Rattle.answers.specs.declared.Refusal.{Refusal}
 use Rattle.blocks.specs.Blocks.{put}
 use Rattle.ht_file.specs.Places.{tag_pages, bucket_page, if_tags}
 use Rattle.meta_map.specs.Tags.{Kind, empty, tombstone, full, kind_of, is_kind, full_tag}
 use Rattle.page_diff.specs.Diff.{marked, count_of}
 use Rattle.probe.specs.Path.{allocating}
-use Rattle.probe.specs.declared.Limit.{Limit}
 use Rattle.wal.specs.Log.{Entry, clear, record_of, clear_size, update_size}
 use Rattle.wal.specs.Run.{WideChange}
 use Rattle.wal.specs.Writer.{open_at, position, edition_of, if_open, if_room}
@@ -20,9 +20,7 @@ use Rattle.sync_parts.specs.declared.Where.TheVariants.{Known, Fresh as FreshPag
 use Rattle.sync.specs.declared.Change.{Change}
 use Rattle.sync.specs.declared.Place.{Place}
 use Rattle.sync.specs.declared.SyncState.{SyncState}
-use Rattle.sync.specs.declared.StepAnswer.{StepAnswer}
 use Rattle.sync.specs.declared.Taken.{Taken}
-use Rattle.sync.specs.declared.Taken.TheVariants as taken
 
 -- what a change is lent and may change
 pub record Mem : Type 0 where
@@ -170,7 +168,7 @@ abbrev pub mem_by : Answer Effect → SyncState → Mem → List ℕ → Change 
 mem_by a st m page c =
     mem_of (tags_if a c.hash m.tags) (marks_if a m.marks) (cells_if a (where_of c.place) m.cells) (log_if a st.writer c page m.log)
 
-abbrev pub state_of : ℕ → Limit → Writer → ℕ → SyncState
+abbrev pub state_of : ℕ → Option ℕ → Writer → ℕ → SyncState
 state_of n limit w o = record { n = n; limit = limit; writer = w; occupied = o }
 
 abbrev pub state_by : Answer Effect → SyncState → Change → SyncState
@@ -182,13 +180,13 @@ abbrev pub page_number : SyncState → Answer Effect → Answer (ℕ × ℕ)
 page_number st (refused k) = refused k
 page_number st (given e) = given (bucket_of e, bucket_page st.n (bucket_of e))
 
-abbrev pub taken_said : Taken → Answer (ℕ × ℕ)
-taken_said (taken.At b p) = given (b, p)
-taken_said (taken.Refused r) = refused (number_of r)
+abbrev pub taken_said : Result Taken Refusal → Answer (ℕ × ℕ)
+taken_said (Ok t) = given (t.bucket, t.page)
+taken_said (Err r) = refused (number_of r)
 
 -- what a step promises: its answer, the state and the memory after it; and the widths of the change it was given
-pub record StepPromise (st : SyncState) (m : Mem) (page : List ℕ) (c : Change) (r : StepAnswer) (after : Mem) : Type 0 where
-  pub taken : taken_said r.taken ≡ page_number st (effect_of st m page c)
-  pub state : r.state ≡ state_by (effect_of st m page c) st c
+pub record StepPromise (st : SyncState) (m : Mem) (page : List ℕ) (c : Change) (r : Result Taken Refusal) (st' : SyncState) (after : Mem) : Type 0 where
+  pub taken : taken_said r ≡ page_number st (effect_of st m page c)
+  pub state : st' ≡ state_by (effect_of st m page c) st c
   pub memory : after ≡ mem_by (effect_of st m page c) st m page c
   pub wide : Wide c

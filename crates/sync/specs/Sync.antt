@@ -1,7 +1,8 @@
 -- 01, 'Sync', and 02, W-207: the changes one after another, and the whole sync. Assumes nothing.
-use Rattle.std.specs.Prelude.{◌≡◌, cond, ◌&&◌, List, [], ◌∷◌, ℕ, ◌+◌, ◌*◌, ◌/◌, ltb, eqb, length, take, drop, replicate}
-use Rattle.answers.specs.Answers.{Answer, given, refused}
+use Rattle.std.specs.Prelude.{◌≡◌, cond, ◌&&◌, List, [], ◌∷◌, ℕ, ◌+◌, ◌*◌, ◌/◌, ltb, eqb, length, take, drop, replicate, Result, Ok, Err}
+use Rattle.answers.specs.Answers.{Answer, given, refused, answer_of}
 use Rattle.answers.specs.Refusals.{number_of}
+use Rattle.answers.specs.declared.Refusal.{Refusal}
 use Rattle.ht_file.specs.Places.{tag_pages, if_tags}
 use Rattle.meta_map.specs.Tags.{full, count_of}
 use Rattle.page_diff.specs.Diff.{marked}
@@ -16,11 +17,9 @@ use Rattle.sync.specs.Change.{AllWide, Mem, mem_of, Effect, effect_of, entry_by,
 use Rattle.sync.specs.declared.Change.{Change}
 use Rattle.sync.specs.declared.SyncState.{SyncState}
 use Rattle.sync.specs.declared.SyncStart.{SyncStart}
-use Rattle.sync.specs.declared.Run.{Run}
-use Rattle.sync.specs.declared.Run.TheVariants as run
-use Rattle.sync.specs.declared.SyncAnswer.{SyncAnswer}
+use Rattle.sync.specs.declared.SyncRefusal.{SyncRefusal}
+use Rattle.sync.specs.declared.SyncRefusal.TheVariants as why
 use Rattle.sync.specs.declared.Synced.{Synced}
-use Rattle.sync.specs.declared.Synced.TheVariants as synced
 
 -- change j's page: "with the pages in one slice"; none where they do not reach that far
 abbrev pub page_of : List ℕ → ℕ → List ℕ
@@ -84,16 +83,16 @@ unfoldable pub hashes_of : List Change → List ℕ
 hashes_of [] = []
 hashes_of (c ∷ cs) = cond (marked c.diff.words 127) (hashes_of cs) (c.hash ∷ hashes_of cs)
 
--- how a sync goes: on, with the state for its next change; refused before its first, with the writer that it hands back; or refused at change j
+-- how a sync goes: on, with the state for its next change; refused before its first; or refused at change j
 pub data Going : Type 0 where
   on : SyncState → Going
-  unbegun : ℕ → Writer → Going
+  unbegun : ℕ → Going
   stopped : ℕ → ℕ → Going
 
-abbrev pub run_said : Run → Going
-run_said (run.On st) = on st
-run_said (run.Refused r w) = unbegun (number_of r) w
-run_said (run.RefusedAt j r) = stopped j (number_of r)
+abbrev pub run_said : Result SyncState SyncRefusal → Going
+run_said (Ok st) = on st
+run_said (Err (why.Refused r)) = unbegun (number_of r)
+run_said (Err (why.RefusedAt j r)) = stopped j (number_of r)
 
 -- how it goes where its changes came to
 abbrev pub going_by : Came → SyncState → Going
@@ -126,19 +125,19 @@ said_finish (refused k) occupied = said_refused k
 
 abbrev pub end_said : Going → List ℕ → SyncSaid
 end_said (on st) log = said_finish (finish_answer log st.writer) st.occupied
-end_said (unbegun k w) log = said_refused k
+end_said (unbegun k) log = said_refused k
 end_said (stopped j k) log = said_refused_at j k
 
--- "finishes the log", or its "writer becomes fresh"; a sync that has not begun leaves both
+-- "finishes the log", or its "writer becomes fresh"; a sync that has not begun leaves both as they were lent
 abbrev pub end_log : Going → List ℕ → List ℕ
 end_log (on st) log = finish_log log st.writer
-end_log (unbegun k w) log = log
+end_log (unbegun k) log = log
 end_log (stopped j k) log = log
 
-abbrev pub end_writer : Going → List ℕ → Writer
-end_writer (on st) log = finish_writer log st.writer
-end_writer (unbegun k w) log = w
-end_writer (stopped j k) log = Fresh
+abbrev pub end_writer : Going → List ℕ → Writer → Writer
+end_writer (on st) log w = finish_writer log st.writer
+end_writer (unbegun k) log w = w
+end_writer (stopped j k) log w = Fresh
 
 -- the same, where the changes came to
 abbrev pub said_by : Came → SyncState → Mem → SyncSaid
@@ -147,13 +146,13 @@ said_by c st m = end_said (going_by c st) m.log
 abbrev pub log_after : Came → SyncState → Mem → List ℕ
 log_after c st m = end_log (going_by c st) m.log
 
-abbrev pub writer_after : Came → SyncState → Mem → Writer
-writer_after c st m = end_writer (going_by c st) m.log
+abbrev pub writer_after : Came → SyncState → Mem → Writer → Writer
+writer_after c st m w = end_writer (going_by c st) m.log w
 
-abbrev pub synced_said : Synced → SyncSaid
-synced_said (synced.Done o l) = said_done o l
-synced_said (synced.Refused r) = said_refused (number_of r)
-synced_said (synced.RefusedAt j r) = said_refused_at j (number_of r)
+abbrev pub synced_said : Result Synced SyncRefusal → SyncSaid
+synced_said (Ok x) = said_done x.occupied x.length
+synced_said (Err (why.Refused r)) = said_refused (number_of r)
+synced_said (Err (why.RefusedAt j r)) = said_refused_at j (number_of r)
 
 -- the changes from the start
 abbrev pub came : ℕ → Mem → List ℕ → List Change → Start → CameTo
@@ -184,37 +183,45 @@ sync_mem n m pages cs start =
 unfoldable pub sync_writer : ℕ → Mem → List ℕ → List Change → Start → Writer → Writer
 sync_writer n m pages cs start w =
     kept_if (before_changes n m pages (length cs)) w
-    (writer_after (came n m pages cs start).came (came n m pages cs start).state (left n m pages cs start))
+    (writer_after (came n m pages cs start).came (came n m pages cs start).state (left n m pages cs start) w)
 
 -- ---- what each part of a sync promises
--- change j of a sync that goes on; one that was refused stays as it is, and leaves all
-abbrev pub change_going : Mem → List ℕ → Change → ℕ → Going → Going
-change_going m pages c j (on st) = going_by (change_at m pages c j st).came (change_at m pages c j st).state
-change_going m pages c j (unbegun k w) = unbegun k w
-change_going m pages c j (stopped i k) = stopped i k
+-- change j of a sync that goes on
+abbrev pub change_going : Mem → List ℕ → Change → ℕ → SyncState → Going
+change_going m pages c j st = going_by (change_at m pages c j st).came (change_at m pages c j st).state
 
-abbrev pub change_left : Mem → List ℕ → Change → ℕ → Going → Mem
-change_left m pages c j (on st) = change_mem m pages c j st
-change_left m pages c j (unbegun k w) = m
-change_left m pages c j (stopped i k) = m
+abbrev pub ChangePromise : Mem → List ℕ → Change → ℕ → SyncState → Result SyncState SyncRefusal → Mem → Type 0
+ChangePromise m pages c j st r after = (run_said r ≡ change_going m pages c j st) × (after ≡ change_mem m pages c j st)
 
-abbrev pub ChangePromise : Mem → List ℕ → Change → ℕ → Run → Run → Mem → Type 0
-ChangePromise m pages c j before r after = (run_said r ≡ change_going m pages c j (run_said before)) × (after ≡ change_left m pages c j (run_said before))
+-- the start of a sync of so many changes: its answer, the marks and the log after it; and the widths of what its log starts with
+abbrev pub start_answer : Answer (Unit {0}) → SyncState → Answer SyncState
+start_answer (given u) st = given st
+start_answer (refused k) st = refused k
 
--- the start of a sync of so many changes: how it goes, the marks and the log after it; and the widths of what its log starts with
-abbrev pub start_going : Answer (Unit {0}) → SyncState → Writer → Going
-start_going (given u) st w = on st
-start_going (refused k) st w = unbegun k w
-
-abbrev pub BeginPromise : SyncStart → Mem → List ℕ → ℕ → Run → Mem → Type 0
+abbrev pub BeginPromise : SyncStart → Mem → List ℕ → ℕ → Result SyncState Refusal → Mem → Type 0
 BeginPromise s m pages count r after =
-    (run_said r ≡ start_going (before_changes s.n m pages count) (start_state s.n m s.log_start) s.writer) ×
+    (answer_of r ≡ start_answer (before_changes s.n m pages count) (start_state s.n m s.log_start)) ×
     ((after ≡ kept_if (before_changes s.n m pages count) m (start_mem m s.log_start)) × WideStart s.log_start)
 
+-- the start and the changes: how the sync goes and what it leaves; and the widths of all of them, where it goes on
+abbrev pub walk_going : Answer (Unit {0}) → CameTo → Going
+walk_going (given u) c = going_by c.came c.state
+walk_going (refused k) c = unbegun k
+
+abbrev pub wide_on : Going → List Change → Start → Type 0
+wide_on (on st) cs start = AllWide cs × WideStart start
+wide_on (unbegun k) cs start = Unit {0}
+wide_on (stopped j k) cs start = Unit {0}
+
+pub record WalkPromise (s : SyncStart) (m : Mem) (pages : List ℕ) (cs : List Change) (r : Result SyncState SyncRefusal) (after : Mem) : Type 0 where
+  pub going : run_said r ≡ walk_going (before_changes s.n m pages (length cs)) (came s.n m pages cs s.log_start)
+  pub memory : after ≡ kept_if (before_changes s.n m pages (length cs)) m (left s.n m pages cs s.log_start)
+  pub widths : wide_on (run_said r) cs s.log_start
+
 -- the end of a sync, however it goes: the answer, the writer and the log after it
-abbrev pub EndPromise : Run → List ℕ → SyncAnswer → List ℕ → Type 0
-EndPromise g log r after =
-    (synced_said r.synced ≡ end_said (run_said g) log) × ((r.writer ≡ end_writer (run_said g) log) × (after ≡ end_log (run_said g) log))
+abbrev pub EndPromise : Result SyncState SyncRefusal → List ℕ → Writer → Result Synced SyncRefusal → Writer → List ℕ → Type 0
+EndPromise g log w r w' after =
+    (synced_said r ≡ end_said (run_said g) log) × ((w' ≡ end_writer (run_said g) log w) × (after ≡ end_log (run_said g) log))
 
 -- the widths that the types of what is lent give, where a sync came through: of every change, and of what its log starts with
 abbrev pub widths_by : SyncSaid → List Change → Start → Type 0
@@ -223,8 +230,8 @@ widths_by (said_refused k) cs start = Unit {0}
 widths_by (said_refused_at j k) cs start = Unit {0}
 
 -- what a sync promises: its answer, the writer and the memory after it; and these widths
-pub record SyncPromise (s : SyncStart) (m : Mem) (pages : List ℕ) (cs : List Change) (r : SyncAnswer) (after : Mem) : Type 0 where
-  pub says : synced_said r.synced ≡ sync_says s.n m pages cs s.log_start
-  pub writer : r.writer ≡ sync_writer s.n m pages cs s.log_start s.writer
+pub record SyncPromise (s : SyncStart) (m : Mem) (pages : List ℕ) (cs : List Change) (w : Writer) (r : Result Synced SyncRefusal) (w' : Writer) (after : Mem) : Type 0 where
+  pub says : synced_said r ≡ sync_says s.n m pages cs s.log_start
+  pub writer : w' ≡ sync_writer s.n m pages cs s.log_start w
   pub memory : after ≡ sync_mem s.n m pages cs s.log_start
-  pub widths : widths_by (synced_said r.synced) cs s.log_start
+  pub widths : widths_by (synced_said r) cs s.log_start

@@ -4,20 +4,19 @@
 #![tactic(auto)]
 
 ghost use Rattle.std.specs.Prelude.{◌≡◌, true, [], ◌≤◌, ◌<◌, length};
-ghost use Rattle.answers.specs.Answers.{given, refused};
-ghost use Rattle.answers.specs.Refusals.{number_of};
+ghost use Rattle.answers.specs.Answers.{given};
 ghost use Rattle.ht_file.specs.Places.{tags_fit, bucket_page};
-ghost use Rattle.sync.specs.Change.{Wide, mem_of, where_of, place_of, by_named, does_of, taken_said, StepPromise, state_of};
+ghost use Rattle.sync.specs.Change.{Wide, mem_of, where_of, place_of, by_named, does_of, StepPromise};
+ghost use Rattle.sync.specs.declared.SyncRefusal.TheVariants.{Refused};
 ghost use Rattle.sync_parts.specs.Parts.{bucket};
 ghost use Rattle.sync_parts.specs.declared.Where.TheVariants.{Known, Fresh as FreshPage, Cell};
 ghost use Rattle.sync.specs.InnerChange.{planned_said, LookPromise};
-ghost use Rattle.sync.specs.Sync.{ChangePromise, BeginPromise, EndPromise, SyncPromise};
+ghost use Rattle.sync.specs.Sync.{page_of, ChangePromise, BeginPromise, WalkPromise, EndPromise, SyncPromise};
 
-use answers::{Number, Outcome, Refusal, Truth};
+use answers::Refusal;
 use meta_map::TOMBSTONE;
 use page_diff::Diff;
-use probe::{Allocated, Limit};
-use sync_parts::{Name, Where};
+use sync_parts::Where;
 use wal::{Start, Writer};
 
 const KNOWN: u64 = 0;
@@ -51,54 +50,45 @@ pub struct Change {
 #[derive(Clone, Copy)]
 pub struct SyncState {
     pub n: usize,
-    pub limit: Limit,
+    pub limit: Option<usize>,
     pub writer: Writer,
     pub occupied: u64,
 }
 
 // What a change has come to: its bucket and the number of its page in the table's file.
 #[derive(Clone, Copy)]
-pub enum Taken {
-    At { bucket: u64, page: u64 },
-    Refused(Refusal),
+pub struct Taken {
+    pub bucket: u64,
+    pub page: u64,
 }
 
-#[derive(Clone, Copy)]
-pub struct StepAnswer {
-    pub taken: Taken,
-    pub state: SyncState,
-}
-
-// What a sync begins with: the count of buckets; what its log starts with (number, edition, seed); and the
-// writer that it hands back where it is refused before it has begun.
+// What a sync begins with: the count of buckets; and what its log starts with (number, edition, seed).
 #[derive(Clone, Copy)]
 pub struct SyncStart {
     pub n: usize,
     pub log_start: Start,
-    pub writer: Writer,
 }
 
-// How a sync goes: on, with the state for its next change; refused before its first change, with the
-// writer that it hands back; or refused at a change.
+// What a whole sync has come to: the full buckets and the length of the finished log.
 #[derive(Clone, Copy)]
-pub enum Run {
-    On(SyncState),
-    Refused(Refusal, Writer),
-    RefusedAt(usize, Refusal),
+pub struct Synced {
+    pub occupied: u64,
+    pub length: u64,
 }
 
-// What the whole sync has come to: the full buckets and the length of the finished log.
-#[derive(Clone, Copy)]
-pub enum Synced {
-    Done { occupied: u64, length: u64 },
+// Why a sync was refused: not at a change, and it has not begun; or at a change, counted from 0.
+#[derive(Clone, Copy, Debug, PartialEq, Eq, Drop)]
+pub enum SyncRefusal {
     Refused(Refusal),
     RefusedAt(usize, Refusal),
 }
 
-#[derive(Clone, Copy)]
-pub struct SyncAnswer {
-    pub synced: Synced,
-    pub writer: Writer,
+impl From<Refusal> for SyncRefusal {
+    ghost from_gives = { λ why r. r ≡ Refused why };
+
+    fn from(why: Refusal) -> SyncRefusal {
+        SyncRefusal::Refused(why)
+    }
 }
 
 // What a change is to do.
@@ -107,7 +97,6 @@ enum Planned {
     Clears(u64),
     Updates(u64),
     Allocates,
-    Refused(Refusal),
 }
 
 // Where a place says that the bucket is known from.
@@ -148,7 +137,7 @@ pub fn cell(i: usize) -> Place
 }
 
 // What a named bucket is to take: 9 and 14 are decided here.
-fn plan_named(tags: &[u8], n: usize, clearing: bool, hash: u64, b: u64) -> Planned
+fn plan_named(tags: &[u8], n: usize, clearing: bool, hash: u64, b: u64) -> Result<Planned, Refusal>
     requires { tags_fit n (length tags.now) ≡ true }
     ensures { planned_said result ≡ by_named clearing n tags.now hash (given (bucket b)) }
 {
@@ -156,38 +145,31 @@ fn plan_named(tags: &[u8], n: usize, clearing: bool, hash: u64, b: u64) -> Plann
         let i = b as usize;
         if sync_parts::tag_fits(hash, tags[i]) {
             if clearing {
-                return Planned::Clears(b);
+                return Ok(Planned::Clears(b));
             }
-            return Planned::Updates(b);
+            return Ok(Planned::Updates(b));
         }
-        return Planned::Refused(Refusal::BucketUnfit);
+        return Err(Refusal::BucketUnfit);
     }
-    Planned::Refused(Refusal::BucketOutside)
+    Err(Refusal::BucketOutside)
 }
 
 // What a change is to do, on the tags and the cells as they are: 4, 2, 9 and 14 are decided here.
-fn plan(tags: &[u8], n: usize, cells: &[u64], c: Change) -> Planned
+fn plan(tags: &[u8], n: usize, cells: &[u64], c: Change) -> Result<Planned, Refusal>
     requires { tags_fit n (length tags.now) ≡ true }
     ensures { planned_said result ≡ does_of n tags.now cells.now c }
 {
-    let d = c.diff;
-    let spare = page_diff::changed(d, 126);
-    if let Truth::Holds = spare {
-        return Planned::Refused(Refusal::DiffReserved);
+    let spare = page_diff::changed(c.diff, 126)?;
+    if spare {
+        return Err(Refusal::DiffReserved);
     }
-    let clearing = page_diff::cleared(d);
-    let place = c.place;
-    let name = sync_parts::name_of(where_of(place), cells);
-    if let Name::Refused(why) = name {
-        return Planned::Refused(why);
+    let clearing = page_diff::cleared(c.diff);
+    let name = sync_parts::name_of(where_of(c.place), cells)?;
+    match name {
+        Some(b) => plan_named(tags, n, clearing, c.hash, b),
+        None if clearing => Err(Refusal::BucketUnfit),
+        None => Ok(Planned::Allocates),
     }
-    if let Name::Bucket(b) = name {
-        return plan_named(tags, n, clearing, c.hash, b);
-    }
-    if clearing {
-        return Planned::Refused(Refusal::BucketUnfit);
-    }
-    Planned::Allocates
 }
 
 // What a change will have done, if it is accepted: nothing is written yet.
@@ -196,11 +178,16 @@ enum Outlook {
     Clears(u64),
     Updates(u64),
     Takes(u64),
-    Refused(Refusal),
 }
 
 // The plan, with the room for its record, and a bucket where one is to be allocated: 13, then 10 or 11.
-fn look_ahead(tags: &[u8], cells: &[u64], log: &[u8], c: Change, st: SyncState) -> Outlook
+fn look_ahead(
+    tags: &[u8],
+    cells: &[u64],
+    log: &[u8],
+    c: Change,
+    st: SyncState,
+) -> Result<Outlook, Refusal>
     requires { tags_fit st.n (length tags.now) ≡ true }
     ensures { LookPromise st (mem_of tags.now [] cells.now log.now) c result }
 {
@@ -208,67 +195,43 @@ fn look_ahead(tags: &[u8], cells: &[u64], log: &[u8], c: Change, st: SyncState) 
     let limit = st.limit;
     let w = st.writer;
     let d = c.diff;
-    let planned = plan(tags, n, cells, c);
+    let planned = plan(tags, n, cells, c)?;
     match planned {
-        Planned::Refused(why) => Outlook::Refused(why),
         Planned::Clears(b) => {
             if wal_write::has_room(log.len(), w, sync_parts::body_of(true, d)) {
-                return Outlook::Clears(b);
+                return Ok(Outlook::Clears(b));
             }
-            Outlook::Refused(Refusal::NoRoom)
+            Err(Refusal::NoRoom)
         }
         Planned::Updates(b) => {
             if wal_write::has_room(log.len(), w, sync_parts::body_of(false, d)) {
-                return Outlook::Updates(b);
+                return Ok(Outlook::Updates(b));
             }
-            Outlook::Refused(Refusal::NoRoom)
+            Err(Refusal::NoRoom)
         }
         Planned::Allocates => {
             if wal_write::has_room(log.len(), w, sync_parts::body_of(false, d)) {
-                let found = probe::find_bucket(tags, n, c.hash, limit);
-                match found {
-                    Allocated::At(b) => Outlook::Takes(b),
-                    Allocated::Refused(why) => Outlook::Refused(why),
-                }
-            } else {
-                Outlook::Refused(Refusal::NoRoom)
+                let b = probe::find_bucket(tags, n, c.hash, limit)?;
+                return Ok(Outlook::Takes(b));
             }
+            Err(Refusal::NoRoom)
         }
     }
 }
 
-// A refused change: the state as it was.
-fn refused_step(why: Refusal, st: SyncState) -> StepAnswer
-    ensures { (taken_said result.taken ≡ refused (number_of why)) × (result.state ≡ st) }
+// An accepted change's bucket and page number.
+fn taken_at(n: usize, b: u64) -> Taken
+    requires { (n ≤ 1048576) × (b < n) }
+    ensures { (result.bucket ≡ b) × (result.page ≡ bucket_page n b) }
 {
-    StepAnswer {
-        taken: Taken::Refused(why),
-        state: st,
+    Taken {
+        bucket: b,
+        page: ht_file::tag_pages(n) as u64 + b,
     }
 }
 
-// An accepted change: its bucket and page number, and the state after it.
-fn taken_step(b: u64, st: SyncState, writer: Writer, occupied: u64) -> StepAnswer
-    requires { (st.n ≤ 1048576) × (b < st.n) }
-    ensures { (taken_said result.taken ≡ given (b, bucket_page st.n b)) × (result.state ≡ state_of st.n st.limit writer occupied) }
-{
-    let n = st.n;
-    let limit = st.limit;
-    StepAnswer {
-        taken: Taken::At {
-            bucket: b,
-            page: ht_file::tag_pages(n) as u64 + b,
-        },
-        state: SyncState {
-            n,
-            limit,
-            writer,
-            occupied,
-        },
-    }
-}
-
-// One change: its tag, its mark, its cell and its record in the log. A refused change leaves all of them.
+// One change: its tag, its mark, its cell and its record in the log; the state is that after it. A refused change
+// leaves all of them. The record's room was looked at, so its call is not refused.
 pub fn step(
     tags: &mut [u8],
     marks: &mut [u8],
@@ -276,54 +239,55 @@ pub fn step(
     log: &mut [u8],
     page: &[u8],
     c: Change,
-    st: SyncState,
-) -> StepAnswer
-    ensures { StepPromise st (mem_of tags.old marks.old cells.old log.old) page.now c result (mem_of tags.new marks.new cells.new log.new) }
+    st: &mut SyncState,
+) -> Result<Taken, Refusal>
+    ensures { StepPromise st.old (mem_of tags.old marks.old cells.old log.old) page.now c result st.new (mem_of tags.new marks.new cells.new log.new) }
 {
     let n = st.n;
-    let w = st.writer;
-    let fit = ht_file::check_tags(n, tags.len());
-    if let Outcome::Refused(why) = fit {
-        return refused_step(why, st);
-    }
+    ht_file::check_tags(n, tags.len())?;
     if page.len() != 4096 {
-        return refused_step(Refusal::LengthUnfit, st);
+        return Err(Refusal::LengthUnfit);
     }
     if marks.len() != ht_file::tag_pages(n) {
-        return refused_step(Refusal::LengthUnfit, st);
+        return Err(Refusal::LengthUnfit);
     }
-    let Writer::Open(_, _) = w else {
-        return refused_step(Refusal::WriterNotOpen, st);
+    let Writer::Open(_, _) = st.writer else {
+        return Err(Refusal::WriterNotOpen);
     };
-    let ahead = look_ahead(&tags[..], &cells[..], &log[..], c, st);
-    let id = c.id;
-    let d = c.diff;
-    let place = c.place;
+    let ahead = look_ahead(&tags[..], &cells[..], &log[..], c, *st)?;
     match ahead {
-        Outlook::Refused(why) => refused_step(why, st),
         Outlook::Clears(b) => {
-            let written = wal_write::write_clear(log, w, b);
+            wal_write::write_clear(log, &mut st.writer, b)?;
             sync_parts::write_tag(tags, marks, b as usize, TOMBSTONE);
-            let after = written.writer;
-            taken_step(b, st, after, sync_parts::one_less(st.occupied))
+            st.occupied = st.occupied.saturating_sub(1);
+            Ok(taken_at(n, b))
         }
         Outlook::Updates(b) => {
-            let written = wal_write::write_page_update(log, w, id, d, page, b);
-            let after = written.writer;
-            taken_step(b, st, after, st.occupied)
+            wal_write::write_page_update(log, &mut st.writer, c.id, c.diff, page, b)?;
+            Ok(taken_at(n, b))
         }
         Outlook::Takes(b) => {
-            let written = wal_write::write_page_update(log, w, id, d, page, b);
+            wal_write::write_page_update(log, &mut st.writer, c.id, c.diff, page, b)?;
             sync_parts::write_tag(tags, marks, b as usize, meta_map::full_entry(c.hash));
-            sync_parts::set_cell(cells, where_of(place), b);
-            let after = written.writer;
-            taken_step(b, st, after, sync_parts::one_more(st.occupied))
+            sync_parts::set_cell(cells, where_of(c.place), b);
+            st.occupied = st.occupied.saturating_add(1);
+            Ok(taken_at(n, b))
         }
     }
 }
 
-// Change j of a sync, whose page is the j-th of the lent pages. A sync that was refused stays as it is. What the types
-// say of the change's parts is handed out.
+// The page of change j, among the lent pages; none where they do not reach that far.
+fn page_at(pages: &[u8], j: usize) -> &[u8]
+    ensures { result.now ≡ page_of pages.now j }
+{
+    if j < pages.len() / 4096 {
+        return &pages[4096 * j..4096 * j + 4096];
+    }
+    &pages[..0]
+}
+
+// Change j of a sync, whose page is the j-th of the lent pages: the state for the next. What the types say of the
+// change's parts is handed out.
 pub fn change_at(
     tags: &mut [u8],
     marks: &mut [u8],
@@ -332,27 +296,17 @@ pub fn change_at(
     pages: &[u8],
     c: Change,
     j: usize,
-    run: Run,
-) -> Run
-    ensures goes { ChangePromise (mem_of tags.old marks.old cells.old log.old) pages.now c j run result (mem_of tags.new marks.new cells.new log.new) }
+    st: SyncState,
+) -> Result<SyncState, SyncRefusal>
+    ensures goes { ChangePromise (mem_of tags.old marks.old cells.old log.old) pages.now c j st result (mem_of tags.new marks.new cells.new log.new) }
     ensures wide { Wide c }
 {
-    let Run::On(st) = run else {
-        return run;
-    };
-    let mut a = 0;
-    let mut e = 0;
-    if j < pages.len() / 4096 {
-        a = 4096 * j;
-        e = a + 4096;
+    let mut state = st;
+    let taken = step(tags, marks, cells, log, page_at(pages, j), c, &mut state);
+    match taken {
+        Ok(_) => Ok(state),
+        Err(why) => Err(SyncRefusal::RefusedAt(j, why)),
     }
-    let s = step(tags, marks, cells, log, &pages[a..e], c, st);
-    let t = s.taken;
-    if let Taken::Refused(why) = t {
-        return Run::RefusedAt(j, why);
-    }
-    let state = s.state;
-    Run::On(state)
 }
 
 // The start of a sync of so many changes: the lengths are tested, the log is begun, the marks are zeroed and
@@ -364,77 +318,78 @@ pub fn begin_sync(
     pages: &[u8],
     count: usize,
     start: SyncStart,
-) -> Run
+) -> Result<SyncState, Refusal>
     ensures { BeginPromise start (mem_of tags.now marks.old [] log.old) pages.now count result (mem_of tags.now marks.new [] log.new) }
 {
     let n = start.n;
-    let w = start.writer;
-    let fit = ht_file::check_tags(n, tags.len());
-    if let Outcome::Refused(why) = fit {
-        return Run::Refused(why, w);
-    }
+    ht_file::check_tags(n, tags.len())?;
     if pages.len() / 4096 != count {
-        return Run::Refused(Refusal::LengthUnfit, w);
+        return Err(Refusal::LengthUnfit);
     }
     if pages.len() % 4096 != 0 {
-        return Run::Refused(Refusal::LengthUnfit, w);
+        return Err(Refusal::LengthUnfit);
     }
     if marks.len() != ht_file::tag_pages(n) {
-        return Run::Refused(Refusal::LengthUnfit, w);
+        return Err(Refusal::LengthUnfit);
     }
-    let log_start = start.log_start;
-    let begun = wal_write::begin(log, Writer::Fresh, log_start);
-    let outcome = begun.outcome;
-    if let Outcome::Refused(why) = outcome {
-        return Run::Refused(why, w);
-    }
+    let mut writer = Writer::Fresh;
+    wal_write::begin(log, &mut writer, start.log_start)?;
     blocks::zero_all(marks);
-    let writer = begun.writer;
-    let state = SyncState {
+    Ok(SyncState {
         n,
         limit: probe::hit_limit(),
         writer,
         occupied: sync_parts::full_tags(tags, n),
-    };
-    Run::On(state)
+    })
 }
 
-// What comes after the last change: the log is finished, or given up where a change was refused.
-pub fn end_sync(log: &mut [u8], run: Run) -> SyncAnswer
-    ensures { EndPromise run log.old result log.new }
+// The start of a sync and its changes, one after another, as far as none is refused.
+fn all_changes(
+    tags: &mut [u8],
+    marks: &mut [u8],
+    cells: &mut [u64],
+    log: &mut [u8],
+    pages: &[u8],
+    changes: &[Change],
+    start: SyncStart,
+) -> Result<SyncState, SyncRefusal>
+    ensures { WalkPromise start (mem_of tags.old marks.old cells.old log.old) pages.now changes.now result (mem_of tags.new marks.new cells.new log.new) }
+{
+    let mut st = begin_sync(tags, marks, log, pages, changes.len(), start)?;
+    for j in 0..changes.len() {
+        st = change_at(tags, marks, cells, log, pages, changes[j], j, st)?;
+    }
+    Ok(st)
+}
+
+// What comes after the last change, or after the one that was refused: the log is finished, or given up, and its
+// writer fresh. The log and the writer of a sync that has not begun stay.
+pub fn end_sync(
+    log: &mut [u8],
+    run: Result<SyncState, SyncRefusal>,
+    w: &mut Writer,
+) -> Result<Synced, SyncRefusal>
+    ensures { EndPromise run log.old w.old result w.new log.new }
 {
     match run {
-        Run::Refused(why, writer) => SyncAnswer {
-            synced: Synced::Refused(why),
-            writer,
-        },
-        Run::RefusedAt(j, why) => SyncAnswer {
-            synced: Synced::RefusedAt(j, why),
-            writer: Writer::Fresh,
-        },
-        Run::On(state) => {
-            let open = state.writer;
-            let finished = wal_write::finish(log, open);
-            let writer = finished.writer;
-            let answer = finished.answer;
-            match answer {
-                Number::Is(length) => SyncAnswer {
-                    synced: Synced::Done {
-                        occupied: state.occupied,
-                        length,
-                    },
-                    writer,
-                },
-                Number::Refused(why) => SyncAnswer {
-                    synced: Synced::Refused(why),
-                    writer,
-                },
-            }
+        Ok(st) => {
+            *w = st.writer;
+            let length = wal_write::finish(log, w)?;
+            Ok(Synced {
+                occupied: st.occupied,
+                length,
+            })
+        }
+        Err(SyncRefusal::Refused(why)) => Err(SyncRefusal::Refused(why)),
+        Err(SyncRefusal::RefusedAt(j, why)) => {
+            *w = Writer::Fresh;
+            Err(SyncRefusal::RefusedAt(j, why))
         }
     }
 }
 
-// A sync: the changes one after another, logged, between the start of the log and its end.
+// A sync: the changes one after another, logged, between the start of the log and its end. The lent writer is left
+// as the log's; a sync that has not begun leaves it as it was.
 pub fn sync(
     tags: &mut [u8],
     marks: &mut [u8],
@@ -443,14 +398,10 @@ pub fn sync(
     pages: &[u8],
     changes: &[Change],
     start: SyncStart,
-) -> SyncAnswer
-    ensures { SyncPromise start (mem_of tags.old marks.old cells.old log.old) pages.now changes.now result (mem_of tags.new marks.new cells.new log.new) }
+    w: &mut Writer,
+) -> Result<Synced, SyncRefusal>
+    ensures { SyncPromise start (mem_of tags.old marks.old cells.old log.old) pages.now changes.now w.old result w.new (mem_of tags.new marks.new cells.new log.new) }
 {
-    let mut run = begin_sync(tags, marks, log, pages, changes.len(), start);
-    let mut i = 0;
-    while i < changes.len() {
-        run = change_at(tags, marks, cells, log, pages, changes[i], i, run);
-        i += 1;
-    }
-    end_sync(log, run)
+    let run = all_changes(tags, marks, cells, log, pages, changes, start);
+    end_sync(log, run, w)
 }
