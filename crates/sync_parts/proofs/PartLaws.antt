@@ -1,31 +1,22 @@
--- What the parts say where a place is no cell, and where a count is none; a name is fixed by what it says. Assumes nothing.
+-- What a set past the end leaves, and what a count is where it is none; a name is fixed by what it says. Assumes nothing.
 use mathlib.Core.Path.{◌≡◌, refl, sym}
-use mathlib.Core.Logic.{◌⊎◌, ⊎_elim}
 use mathlib.Core.Bool.{Bool, true, false, cond}
-use mathlib.Core.List.{List, [], ◌∷◌}
-use Prim.Native.Nat.{ℕ}
+use mathlib.Core.List.{List}
+use Prim.Native.Nat.{ℕ, ◌≤◌}
+use lib.ListN.{length, set}
+use lib.Seq.{set_out}
 use native.Mathlib.Omega.{arith}
-use types.Run.{OneOf}
-use denote.Enum.Declared.{tag_of}
 use Rattle.std.specs.Prelude.{Result, Ok, Err, Option, None, Some}
 use Rattle.std.specs.Result.{result_unwrap_or}
 use Rattle.answers.specs.Answers.{given, refused, answer_of}
 use Rattle.answers.specs.Refusals.{number_of}
 use Rattle.answers.specs.declared.Refusal.{Refusal}
 use Rattle.answers.proofs.Laws.{given_one, given_refused, refusal_one}
-use Rattle.sync_parts.specs.Parts.{name_said, cells_at}
-use Rattle.sync_parts.specs.declared.Where.{Where}
-use Rattle.sync_parts.specs.declared.Where.TheVariants as place
-use Rattle.sync_parts.specs.contracts.Where as WhereT
+use Rattle.sync_parts.specs.Parts.{name_said}
 
--- a place that is no cell
-pub no_cell : (w : Where) (b : ℕ) (cells : List ℕ) → OneOf (0 ∷ 1 ∷ []) (tag_of WhereT.the_type w) → cells ≡ cells_at w b cells
-no_cell (place.Known k) b cells o = refl
-no_cell place.Fresh b cells o = refl
-no_cell (place.Cell i) b cells o = absurd (out 2 refl o)
-  where
-    out : (t : ℕ) → t ≡ 2 → (t ≡ 0) ⊎ (t ≡ 1) → ⊥
-    out t e = ⊎_elim (λ (p : t ≡ 0). omega arith) (λ (p : t ≡ 1). omega arith)
+-- a byte, or a cell, that is not there
+pub set_past : (s : List ℕ) (i x : ℕ) → length s ≤ i → s ≡ set s i x
+set_past s i x h = sym (set_out s i x h)
 
 -- a count, or 0 where it is refused
 pub counted : (t : Bool) (r : Result ℕ Refusal) (v : ℕ) → answer_of r ≡ cond t (given v) (refused 1) → result_unwrap_or r 0 ≡ cond t v 0

@@ -10,7 +10,7 @@ use answers::Refusal;
 use page_diff::Diff;
 
 // A cell that has no bucket yet.
-pub const UNSET: u64 = 0xffff_ffff_ffff_ffff;
+pub const UNSET: u64 = u64::MAX;
 
 // Where a page's bucket is known from: it is known; the page is new; or a cell has it, or will have it.
 #[derive(Clone, Copy)]
@@ -28,14 +28,11 @@ pub fn name_of(place: Where, cells: &[u64]) -> Result<Option<u64>, Refusal>
         Where::Known(b) => Ok(Some(b)),
         Where::Fresh => Ok(None),
         Where::Cell(i) => {
-            if i < cells.len() {
-                let b = cells[i];
-                if b == UNSET {
-                    return Ok(None);
-                }
-                return Ok(Some(b));
+            let b = *cells.get(i).ok_or(Refusal::LengthUnfit)?;
+            if b == UNSET {
+                return Ok(None);
             }
-            Err(Refusal::LengthUnfit)
+            Ok(Some(b))
         }
     }
 }
@@ -48,6 +45,7 @@ pub fn tag_fits(hash: u64, tag: u8) -> bool
 }
 
 // How long the record of a change is after its mark.
+#[tactic(auto, using(page_diff::proofs::SlotLaws::slots_few))]
 pub fn body_of(clearing: bool, d: Diff) -> usize
     ensures { result ≡ body_of clearing d.words }
 {
@@ -57,7 +55,8 @@ pub fn body_of(clearing: bool, d: Diff) -> usize
     wal::UPDATE_BODY + 32 * page_diff::count(d)
 }
 
-// One byte, where it is there.
+// One byte, where it is there. (By `get_mut` the proof that another place leaves all does not close.)
+#[tactic(auto, using(crate::proofs::PartLaws::set_past))]
 fn set_byte(s: &mut [u8], i: usize, x: u8)
     ensures { s.new ≡ set s.old i x }
 {
@@ -75,7 +74,8 @@ pub fn write_tag(tags: &mut [u8], marks: &mut [u8], b: usize, tag: u8)
     set_byte(marks, m, 1);
 }
 
-// The cell that was to have the bucket has it.
+// The cell that was to have the bucket has it. (As `set_byte`, by its place.)
+#[tactic(auto, using(crate::proofs::PartLaws::set_past))]
 pub fn set_cell(cells: &mut [u64], place: Where, b: u64)
     ensures { cells.new ≡ cells_at place b cells.old }
 {
