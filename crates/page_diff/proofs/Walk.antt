@@ -1,13 +1,13 @@
 -- A loop along the marked slots: what it knows at its head, what a turn adds, where it ends. Assumes nothing.
 use mathlib.Core.Path.{◌≡◌, refl, sym, ap, ◌∙◌, subst}
 use mathlib.Core.Bool.{Bool, true, false, not, ◌&&◌, ◌||◌, true≢false}
-use mathlib.Core.List.{List}
+use mathlib.Core.List.{List, [], ◌∷◌}
 use Prim.Native.Nat.{ℕ, ◌+◌, ◌≤◌, ◌<◌, zero-le}
 use native.Mathlib.Nat.{lt_of_not-le}
 use native.Mathlib.Decide.{dec_le}
 use native.Mathlib.Omega.{arith}
 use lib.Dec.{eqb}
-use lib.ListN.{length, get_or, drop, get_or-eq_default}
+use lib.ListN.{length, get_or, drop, length-drop, get_or-eq_default}
 use lib.Seq.{get_or-drop, drop-drop}
 use Rattle.page_diff.specs.Diff.{marked, slots_below, slots, count_of, reserved, first_slot, without_first}
 use Rattle.page_diff.proofs.MarkLaws.{of_marks_lem}
@@ -79,3 +79,55 @@ walk_low ws ls c s w f h e = go (dec_le 126 s)
     go : Dec (126 ≤ s) → s < 126
     go (yes p) = absurd (true≢false (sym (walk_slot ws ls c s w f h).has_mark ∙ plain_unmarked ws e s p h))
     go (no p) = lt_of_not-le p
+
+-- ---- the slots of a diff, one by one: the first and the slots of the rest, or none
+cons_first : (l : List ℕ) (s : ℕ) → s < 128 → s ≡ get_or l 0 128 → l ≡ s ∷ drop 1 l
+cons_first [] s h e = absurd (omega (arith, e))
+cons_first (x ∷ l) s h e = ap (λ (y : ℕ). y ∷ l) (sym e)
+
+pub slots_first : (ws ls : List ℕ) (s : ℕ) → s < 128 → s ≡ first_slot ws → ls ≡ without_first ws → slots ws ≡ s ∷ slots ls
+slots_first ws ls s h f e = cons_first (slots ws) s h f ∙ ap (λ (l : List ℕ). s ∷ l) (sym (without_slots ws ls e))
+
+none_there : (l : List ℕ) → length l ≤ 0 → l ≡ []
+none_there [] h = refl
+none_there (x ∷ l) h = absurd (omega arith)
+
+pub no_slots : (ws : List ℕ) → first_slot ws ≡ 128 → slots ws ≡ []
+no_slots ws e = go (dec_le (count_of ws) 0)
+  where
+    go : Dec (count_of ws ≤ 0) → slots ws ≡ []
+    go (yes p) = none_there (slots ws) p
+    go (no p) = absurd (omega (arith, e, (slot_at ws 128 0 128 (lt_of_not-le p)).below))
+
+-- ---- a loop over the slots begins with all of them
+pub walk_begin : (ws ls : List ℕ) (c : ℕ) → ls ≡ ws → c ≡ 0 → Walk ws ls c
+walk_begin ws ls c p q = record { left = ap slots p ∙ ap (λ (n : ℕ). drop n (slots ws)) (sym q); upto = omega (arith, q) }
+
+-- in a turn s is taken, and ms has those that are left
+module _ (ws ls ms : List ℕ) (c s : ℕ) (w : Walk ws ls c) (e : slots ls ≡ s ∷ slots ms) where
+  here : drop c (slots ws) ≡ s ∷ slots ms
+  here = sym w.left ∙ e
+
+  pub turn_on : c < count_of ws
+  turn_on = omega (arith, ap length here, length-drop c (slots ws))
+
+  pub turn_at : s ≡ get_or (slots ws) c 128
+  turn_at = let z : c + 0 ≡ c = omega arith in sym (ap (λ (l : List ℕ). get_or l 0 128) here) ∙ get_or-drop c (slots ws) 0 128 ∙ ap (λ (i : ℕ). get_or (slots ws) i 128) z
+
+  pub turn_slot : SlotAt ws 128 c s
+  turn_slot = subst (SlotAt ws 128 c) (sym turn_at) (slot_at ws 128 c 128 turn_on)
+
+  pub turn_step : (k : ℕ) → k ≡ c + 1 → Walk ws ms k
+  turn_step k q = record { left = sym (ap (drop 1) here) ∙ drop-drop 1 c (slots ws) ∙ ap (λ (n : ℕ). drop n (slots ws)) (sym q); upto = omega (arith, turn_on) }
+
+  -- of a diff of nodes alone it is the slot of a node
+  pub turn_low : reserved ws ≡ false → s < 126
+  turn_low p = go (dec_le 126 s)
+    where
+      go : Dec (126 ≤ s) → s < 126
+      go (yes h) = absurd (true≢false (sym turn_slot.has_mark ∙ plain_unmarked ws p s h turn_slot.below))
+      go (no h) = lt_of_not-le h
+
+-- the loop ends when all are done
+pub walk_done : (ws ls : List ℕ) (c : ℕ) → Walk ws ls c → slots ls ≡ [] → c ≡ count_of ws
+walk_done ws ls c w e = omega (arith, ap length w.left, ap length e, length-drop c (slots ws), w.upto)

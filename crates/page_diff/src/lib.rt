@@ -4,6 +4,7 @@
 
 ghost use Rattle.std.specs.Prelude.{◌≡◌, false, map, ◌+◌, ◌*◌, ◌<◌, ◌≤◌, length, IfOk, MatchOption};
 ghost use Rattle.blocks.specs.Blocks.{put, flat, tabulate};
+ghost use Rattle.std.specs.Iterator.{YieldsFirst, item_count};
 ghost use Rattle.answers.specs.Answers.{answer_of, done_of};
 ghost use Rattle.page_diff.specs.Diff.{slots, marked, count_of, reserved, set_answer, set_words, ask_answer, cleared_words, joined, first_slot, without_first, bytes_of_words, read_answer, read_words};
 ghost use Rattle.page_diff.specs.Pack.{node_at, table_of, packed_by, pack_answer, packed_of, nodes_put, pack_into_answer, packed_into, unpacked_byte, Unpacks};
@@ -59,12 +60,10 @@ pub fn from_bytes(bytes: [u8; 16]) -> Result<Diff, Refusal>
 pub fn as_bytes(d: Diff) -> [u8; 16]
     ensures { result ≡ bytes_of_words d.words }
 {
-    let a = blocks::u64_bytes(d.words[0]);
-    let b = blocks::u64_bytes(d.words[1]);
-    [
-        a[0], a[1], a[2], a[3], a[4], a[5], a[6], a[7], b[0], b[1], b[2], b[3], b[4], b[5], b[6],
-        b[7],
-    ]
+    let mut bytes = [0; 16];
+    bytes[..8].copy_from_slice(&blocks::u64_bytes(d.words[0]));
+    bytes[8..].copy_from_slice(&blocks::u64_bytes(d.words[1]));
+    bytes
 }
 
 // Marks a slot of a node and drops the mark of a cleared page; a slot above 125 is refused.
@@ -75,11 +74,9 @@ pub fn set_changed(d: Diff, slot: usize) -> Result<Diff, Refusal>
     if 125 < slot {
         return Err(Refusal::SlotUnfit);
     }
-    let w = slot / 64;
-    let i = slot % 64;
     let mut r = d;
-    r.words[w] = r.words[w] | 1 << i;
-    r.words[1] = r.words[1] & 0x7fff_ffff_ffff_ffff;
+    r.words[slot / 64] |= 1 << (slot % 64);
+    r.words[1] &= !CLEAR_BIT;
     Ok(r)
 }
 
@@ -90,10 +87,7 @@ pub fn changed(d: Diff, slot: usize) -> Result<bool, Refusal>
     if 127 < slot {
         return Err(Refusal::SlotUnfit);
     }
-    let w = slot / 64;
-    let i = slot % 64;
-    let x = d.words[w];
-    Ok((x >> i) % 2 == 1)
+    Ok((d.words[slot / 64] >> (slot % 64)) % 2 == 1)
 }
 
 // Marks the page as cleared; the other marks stay.
@@ -108,23 +102,21 @@ pub fn set_cleared(d: Diff) -> Diff
 pub fn cleared(d: Diff) -> bool
     ensures { result ≡ marked d.words 127 }
 {
-    let hi = d.words[1];
-    CLEAR_BIT <= hi
+    CLEAR_BIT <= d.words[1]
 }
 
 // Whether bit 126 or 127 is set: such a diff is neither read nor packed.
 pub fn is_reserved(d: Diff) -> bool
     ensures { result ≡ reserved d.words }
 {
-    let hi = d.words[1];
-    RESERVED <= hi
+    RESERVED <= d.words[1]
 }
 
 // How many marks there are, bits 126 and 127 included.
 pub fn count(d: Diff) -> usize
     ensures { result ≡ count_of d.words }
 {
-    u64::count_ones(d.words[0]) as usize + u64::count_ones(d.words[1]) as usize
+    d.words[0].count_ones() as usize + d.words[1].count_ones() as usize
 }
 
 // All marks of both.
@@ -139,17 +131,43 @@ pub fn join(a: Diff, b: Diff) -> Diff
 pub fn next_slot(d: Diff) -> Option<(usize, Diff)>
     ensures { MatchOption result (first_slot d.words ≡ 128) (λ n. (n.0 < 128) × ((n.0 ≡ first_slot d.words) × (n.1.words ≡ without_first d.words))) }
 {
-    let lo = d.words[0];
-    let hi = d.words[1];
+    let [lo, hi] = d.words;
     if lo != 0 {
-        let low = [lo & (lo - 1), hi];
-        return Some((u64::trailing_zeros(lo) as usize, Diff { words: low }));
+        let words = [lo & (lo - 1), hi];
+        return Some((lo.trailing_zeros() as usize, Diff { words }));
     }
     if hi != 0 {
-        let high = [0, hi & (hi - 1)];
-        return Some((64 + u64::trailing_zeros(hi) as usize, Diff { words: high }));
+        let words = [0, hi & (hi - 1)];
+        return Some((64 + hi.trailing_zeros() as usize, Diff { words }));
     }
     None
+}
+
+// The marked slots of a diff, rising, for a loop.
+#[derive(Clone, Copy)]
+pub struct Slots {
+    pub left: Diff,
+}
+
+impl Iterator for Slots {
+    type Item = usize;
+
+    ghost next_gives = { YieldsFirst (λ s. slots s.left.words) };
+
+    ghost remaining = { item_count (λ s. slots s.left.words) };
+
+    fn next(&mut self) -> Option<usize> {
+        let (slot, rest) = next_slot(self.left)?;
+        self.left = rest;
+        Some(slot)
+    }
+}
+
+// The marked slots, rising.
+pub fn marked_slots(d: Diff) -> Slots
+    ensures { result.left ≡ d }
+{
+    Slots { left: d }
 }
 
 // A packed table out of its nodes and their count.
@@ -186,12 +204,8 @@ fn pack_nodes(d: Diff, page: &[u8]) -> [[u8; 32]; 126]
     ensures { result ≡ table_of page.now (slots d.words) }
 {
     let mut nodes = [[0u8; 32]; 126];
-    let mut c = 0;
-    let mut left = d;
-    while let Some((s, rest)) = next_slot(left) {
+    for (c, s) in marked_slots(d).enumerate() {
         nodes[c] = blocks::block_32(page, 32 * s);
-        c += 1;
-        left = rest;
     }
     nodes
 }
@@ -201,12 +215,8 @@ fn put_marked_nodes(s: &mut [u8], at: usize, d: Diff, page: &[u8])
     requires { (reserved d.words ≡ false) × (at + 32 * count_of d.words ≤ length s.old) }
     ensures { s.new ≡ put s.old at (flat (map (node_at page.now) (slots d.words))) }
 {
-    let mut c = 0;
-    let mut left = d;
-    while let Some((slot, rest)) = next_slot(left) {
+    for (c, slot) in marked_slots(d).enumerate() {
         blocks::put_32(s, at + 32 * c, blocks::block_32(page, 32 * slot));
-        c += 1;
-        left = rest;
     }
 }
 
@@ -291,12 +301,7 @@ fn unpack_nodes(d: Diff, nodes: &[[u8; 32]; 126], page: &mut [u8])
     requires { (reserved d.words ≡ false) × (length page.old ≡ 4096) }
     ensures { page.new ≡ tabulate (unpacked_byte d.words nodes.now page.old) 4096 }
 {
-    let mut c: usize = 0;
-    let mut left = d;
-    while let Some((s, rest)) = next_slot(left) {
-        let n = nodes[c];
-        blocks::put_32(page, 32 * s, n);
-        c += 1;
-        left = rest;
+    for (c, s) in marked_slots(d).enumerate() {
+        blocks::put_32(page, 32 * s, nodes[c]);
     }
 }
