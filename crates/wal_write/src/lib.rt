@@ -127,11 +127,8 @@ fn put_nodes(log: &mut [u8], at: usize, nodes: &[[u8; 32]; 126], held: usize)
     requires { (held ≤ 126) × (at + 32 * held ≤ length log.old) }
     ensures { (log.new ≡ put log.old at (flat (take held nodes.now))) × (length (flat (take held nodes.now)) ≡ 32 * held) × Rows nodes.now held }
 {
-    let mut c = 0;
-    while c < held {
-        let n = nodes[c];
-        blocks::put_32(log, at + 32 * c, n);
-        c += 1;
+    for (c, n) in nodes[..held].iter().enumerate() {
+        blocks::put_32(log, at + 32 * c, *n);
     }
 }
 
