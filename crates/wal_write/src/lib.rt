@@ -38,9 +38,8 @@ pub fn has_room(log_len: usize, w: Writer, body: usize) -> bool
     ensures { result ≡ room_in log_len w body }
 {
     match w {
-        Writer::Fresh => room_at(log_len, 0, body, 2),
         Writer::Open(at, edition) => room_at(log_len, at, body, 2 * wal::mark_size(edition)),
-        Writer::Finished(_) => room_at(log_len, 0, body, 2),
+        Writer::Fresh | Writer::Finished(_) => room_at(log_len, 0, body, 2),
     }
 }
 
@@ -50,9 +49,8 @@ fn put_mark(log: &mut [u8], at: usize, edition: Edition, tag: u8)
     ensures { log.new ≡ put log.old at (mark edition tag) }
 {
     if let Edition::Two = edition {
-        let next = at + 1;
         log[at] = wal::WAL_EDITION_TWO;
-        log[next] = tag;
+        log[at + 1] = tag;
     } else {
         log[at] = tag;
     }
@@ -246,7 +244,7 @@ pub fn finish(log: &mut [u8], w: &mut Writer) -> Result<u64, Refusal>
         return Err(Refusal::NoRoom);
     }
     let after = at + mark;
-    let len = (after + (wal::PAGE_SIZE - 1)) / wal::PAGE_SIZE * wal::PAGE_SIZE;
+    let len = after.next_multiple_of(wal::PAGE_SIZE);
     put_mark(log, at, edition, wal::WAL_ENTRY_TAG_END);
     blocks::put_zeros(log, after, len - after);
     *w = Writer::Finished(len);

@@ -49,14 +49,16 @@ returns c =
     let sized : m ≡ mark_size ed = c.mark_size-mark.ensures in
     let roomy : leb (p + 0 + mark_size ed) (capacity log) ≡ true = sym (room (goal.at.returns c).After-room_at) ∙ c.if-not-room_at.false in
     let within : (p + m + 4095) / 4096 * 4096 ≤ length log = omega (arith, leb-true (p + 0 + mark_size ed) (capacity log) roomy) in
-    let n : ℕ = (p + m + 4095) / 4096 * 4096 in
+    let n = c.next_multiple_of-len.result in
+    let paged : n ≡ (p + m + 4095) / 4096 * 4096 = let e = c.next_multiple_of-len.ensures in omega (arith, e.lower_bound, e.upper_bound, e.multiple) in
     let zeros : List ℕ = replicate (n - (p + m)) 0 in
     let long : length zeros ≡ n - (p + m) = length-replicate (n - (p + m)) 0 in
-    let same : n ≡ final_length w = ap (λ (x : ℕ). (p + x + 4095) / 4096 * 4096) sized ∙ sym (ap final_length c.in-Open.is) in
+    let same : n ≡ final_length w = paged ∙ ap (λ (x : ℕ). (p + x + 4095) / 4096 * 4096) sized ∙ sym (ap final_length c.in-Open.is) in
     given_leaves (finish_answer log w) w (Finished (final_length w)) log (position w) (bytes w) (final_length w) (given n) (Finished n) c.put_zeros.new.s
     (finish_tests log w ∙ taken log w true false (λ e. 0) (given (final_length w)) ed p c.in-Open.is refl refl roomy) (ap given same) (ap Finished same)
     (c.put_zeros.ensures
     ∙ ap (λ (l : List ℕ). put l (p + m) zeros) c.put_mark.ensures
-    ∙ put_marked ed m sized log p 2 zeros (omega (arith, within))
+    ∙ put_marked ed m sized log p 2 zeros (omega (arith, within, paged))
+    ∙ ap (λ (x : ℕ). put log p (mark ed 2 ++ replicate (x - (p + m)) 0)) paged
     ∙ ap (λ (x : ℕ). put log p (mark ed 2 ++ replicate ((p + x + 4095) / 4096 * 4096 - (p + x)) 0)) sized
     ∙ sym (ap (λ (v : Writer). put log (position v) (bytes v)) c.in-Open.is))

@@ -1,5 +1,5 @@
 -- A turn puts the next node; it ends when `held` are put. Assumes nothing.
-use Rattle.std.proofs.Common.{arith, ◌≡◌, ◌+◌, ◌*◌, ◌≤◌, ◌<◌, List, ℕ, [], length, get_or, take, sym, ap, ◌∙◌, subst}
+use Rattle.std.proofs.Common.{arith, ◌≡◌, ◌+◌, ◌*◌, List, ℕ, [], length, get_or, take, sym, ap, ◌∙◌, subst}
 use lib.Seq.{get_or-take, length-take-le}
 use borrow.Author.Count.{below_more}
 use Rattle.blocks.specs.Blocks.{put, flat}

@@ -1,11 +1,10 @@
 -- The mark and the number, and then the seed or nothing, are the start record. Assumes nothing.
-use Rattle.std.proofs.Common.{rules, arith, ◌≡◌, ◌+◌, ◌≤◌, List, ℕ, length, sym, ap, ap₂, ◌∙◌}
+use Rattle.std.proofs.Common.{rules, arith, ◌≡◌, ◌+◌, List, ℕ, length, sym, ap, ap₂, ◌∙◌}
 use mir.Syntax.{w32}
 use mir.Val.{Fits}
 use Rattle.blocks.specs.Blocks.{bytes_of, put}
-use Rattle.blocks.proofs.Laws.{put-length}
 use Rattle.blocks.proofs.Parts.{put_nothing}
-use Rattle.wal.specs.Log.{mark, mark_size, seed_part, start_record}
+use Rattle.wal.specs.Log.{mark_size, seed_part, start_record}
 use Rattle.wal.specs.Run.{WideStart}
 use Rattle.wal.specs.declared.Edition.{Edition}
 use Rattle.wal.proofs.Records.{mark_small}
