@@ -1,5 +1,6 @@
 // What other languages are told in numbers, part by part: the number of a refusal, of an edition and of a
 // writer's state, and the values of an audit. `bitbox` puts them into the structs that cross the boundary.
+// They are functions and no `From`, which would stand in `wal` and `answers`: the C interface alone has these numbers.
 #![tactic(auto)]
 
 ghost use Rattle.std.specs.Prelude.{◌≡◌};
@@ -32,10 +33,10 @@ pub fn refusal_of<T>(r: &Result<T, Refusal>) -> u64
 pub fn edition_of(number: u32) -> Edition
     ensures { result ≡ edition_of number }
 {
-    if number == 2 {
-        return Edition::Two;
+    match number {
+        2 => Edition::Two,
+        _ => Edition::One,
     }
-    Edition::One
 }
 
 // And the number of an edition.
@@ -62,16 +63,12 @@ fn open_kind(e: Edition) -> u64
 pub fn writer_from(kind: u64, at: u64) -> Writer
     ensures { result ≡ writer_from kind at }
 {
-    if kind == 0 {
-        return Writer::Fresh;
+    match kind {
+        0 => Writer::Fresh,
+        1 => Writer::Open(at as usize, Edition::One),
+        3 => Writer::Open(at as usize, Edition::Two),
+        _ => Writer::Finished(at as usize),
     }
-    if kind == 1 {
-        return Writer::Open(at as usize, Edition::One);
-    }
-    if kind == 3 {
-        return Writer::Open(at as usize, Edition::Two);
-    }
-    Writer::Finished(at as usize)
 }
 
 // And the kind of a writer.
@@ -100,19 +97,9 @@ pub fn writer_at(w: Writer) -> u64
 pub fn audit_values(a: Result<Audit, Refusal>) -> Audit
     ensures { result ≡ audit_values (answer_of a) }
 {
-    match a {
-        Ok(p) => Audit {
-            capacity: p.capacity,
-            occupied: p.occupied,
-            rate: p.rate,
-        },
-        Err(_) => {
-            let none: u32 = 0;
-            Audit {
-                capacity: 0,
-                occupied: 0,
-                rate: none as f64,
-            }
-        }
-    }
+    a.unwrap_or(Audit {
+        capacity: 0,
+        occupied: 0,
+        rate: 0.0,
+    })
 }

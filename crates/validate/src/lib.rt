@@ -20,13 +20,10 @@ pub struct Audit {
 }
 
 // The part of the capacity that is occupied.
-fn occupancy_rate(occupied: u64, capacity: usize) -> f64
-    requires { (occupied ≤ 1048576) × (capacity ≤ 1048576) }
+fn occupancy_rate(occupied: u32, capacity: u32) -> f64
     ensures { result ≡ rate_of occupied capacity }
 {
-    let o = occupied as u32;
-    let c = capacity as u32;
-    (o as f64) / (c as f64)
+    occupied as f64 / capacity as f64
 }
 
 // ---- the path of one bucket
@@ -99,7 +96,7 @@ pub fn validate_hashtable(image: &[u8], n: usize, hashes: &[u64]) -> Result<Audi
     if first < n as u64 {
         return Err(Refusal::LabelTwice);
     }
-    let rate = occupancy_rate(occupied, n);
+    let rate = occupancy_rate(occupied as u32, n as u32);
     Ok(Audit {
         capacity: n as u64,
         occupied,

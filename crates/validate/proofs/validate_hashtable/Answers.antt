@@ -71,13 +71,12 @@ returns-then-first-n c =
     sym (by_buckets img a.n hashes fits c.page_start-tags.result c.page_start-tags.ensures c.if-hashes-n.false c.in_ok-padding_is_empty.field-0 c.in_ok-padding_is_empty.ensures c.if-not-branch.false
     ∙ ap (λ (x : Answer (Unit {0})). and_then x (λ _. given (audit_of img a.n))) e)
 
-pub occupancy_rate-rate-requires : goal.occupancy_rate-rate-requires
-occupancy_rate-rate-requires c =
+pub overflow_cast-occupied : goal.overflow_cast-occupied
+overflow_cast-occupied c =
     let a = c.args in
     let img = a.image.now in
     let fits = table_fits (image_fits a.n (length img)) (sym c.in_ok-check_image.ensures) in
-    let f = image_fits_facts a.n (length img) fits in
-    (omega (arith, counted img a.n a.hashes.now fits c.page_start-tags.result c.page_start-tags.ensures c.in_ok-occupied.occupied c.in_ok-occupied.ensures, count-le full img a.n, f), f.1)
+    omega (arith, counted img a.n a.hashes.now fits c.page_start-tags.result c.page_start-tags.ensures c.in_ok-occupied.occupied c.in_ok-occupied.ensures, count-le full img a.n, image_fits_facts a.n (length img) fits)
 
 pub returns : goal.returns
 returns c =
