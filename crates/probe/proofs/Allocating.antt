@@ -1,40 +1,26 @@
 -- Allocation by its walk: what it answers where the walk stops, ends or has passed too many hits; and what is known of a bucket that is given.
 -- Assumes nothing.
 use mathlib.Core.Path.{◌≡◌, refl, sym, ap, ◌∙◌, subst}
-use mathlib.Core.Bool.{Bool, true, false, true≢false, cond, ◌||◌}
+use mathlib.Core.Bool.{Bool, true, false, true≢false, cond}
 use mathlib.Core.List.{List}
 use mathlib.Core.Logic.{◌⊎◌, inl, inr}
-use Prim.Native.Nat.{ℕ, zero, suc, ◌+◌, ◌-◌, ◌*◌, ◌≤◌, ◌<◌}
+use Prim.Native.Nat.{ℕ, ◌+◌, ◌-◌, ◌*◌, ◌≤◌, ◌<◌}
 use native.Mathlib.Decide.{dec_lt}
 use native.Mathlib.Omega.{arith}
 use lib.Dec.{ltb}
-use lib.ListN.{length, get_or}
+use lib.ListN.{length}
 use borrow.Author.Tests.{lt-ltb, le-leb, lt-leb, leb-false}
 use Rattle.answers.specs.Answers.{Answer, given, refused, and_then}
 use Rattle.ht_file.specs.Places.{tags_fit}
 use Rattle.ht_file.proofs.Laws.{tags_fit_facts}
-use Rattle.meta_map.specs.Tags.{one}
 use Rattle.std.specs.Prelude.{None, Some}
-use Rattle.probe.specs.Path.{Limit, visit, visits, path_from, hits, Stop, stop_at, nowhere, is_free, is_hit, stops_probe, allows, no_bucket_by, free_at, free_stop, no_bucket, allocation_saw, allocating, allocate_answer}
-use Rattle.probe.proofs.Visits.{visit_below, hits_next, hits_mono}
+use Rattle.probe.specs.Path.{Limit, visits, path_from, hits, Stop, stop_at, nowhere, allows, no_bucket_by, free_at, free_stop, no_bucket, allocation_saw, allocating, allocate_answer}
+use Rattle.probe.proofs.Visits.{visit_below, hits_mono}
 use Rattle.probe.proofs.Walk.{Passed, Stopped, stop_told}
 
 -- the hits before visit k
 abbrev pub hits_to : List ℕ → ℕ → ℕ → ℕ → ℕ
 hits_to ts n h k = hits ts h (visits n h 0 k)
-
--- visits that neither stop a probe nor count: the hits stay
-pub hits_passed : (ts : List ℕ) (n h k m : ℕ) → Passed (stops_probe ts h) n h k (k + m) → hits_to ts n h (k + m) ≡ hits_to ts n h k
-hits_passed ts n h k zero a = ap (λ (j : ℕ). hits_to ts n h j) (let e : k + 0 ≡ k = omega arith in e)
-hits_passed ts n h k (suc m) a =
-    let e : k + suc m ≡ k + m + 1 = omega arith in
-    let none = no_hit (is_free (get_or ts (visit n h (k + m)) 0)) (is_hit h (get_or ts (visit n h (k + m)) 0)) (a (k + m) (omega arith) (omega arith)) in
-    ap (λ (j : ℕ). hits_to ts n h j) e ∙ hits_next ts n h (k + m) ∙ ap (λ (t : Bool). hits_to ts n h (k + m) + one t) none
-    ∙ (let z : hits_to ts n h (k + m) + 0 ≡ hits_to ts n h (k + m) = omega arith in z) ∙ hits_passed ts n h k m (λ j x y. a j x (omega arith))
-  where
-    no_hit : (x y : Bool) → (x || y) ≡ false → y ≡ false
-    no_hit true y q = absurd (true≢false q)
-    no_hit false y q = q
 
 -- no hit is allowed by every limit
 pub allows_none : (limit : Limit) → allows limit 0 ≡ true

@@ -1,17 +1,17 @@
 -- The first stop of a walk: found by passing visits one after the other, and what is known of it. Assumes nothing.
 use mathlib.Core.Path.{◌≡◌, refl, sym, ap, ap₂, ◌∙◌, subst}
-use mathlib.Core.Bool.{Bool, true, false, true≢false, cond}
+use mathlib.Core.Bool.{Bool, true, false, cond}
 use mathlib.Core.List.{List}
 use Prim.Native.Nat.{ℕ, zero, suc, ◌+◌, ◌*◌, ◌%◌, ◌≤◌, ◌<◌}
 use native.Mathlib.Nat.{mod-lt, mod-add-mod, add-mod-mod}
-use native.Mathlib.Decide.{ℕ_discrete, dec_lt}
+use native.Mathlib.Decide.{ℕ_discrete}
 use native.Mathlib.Omega.{arith}
 use lib.ListN.{length}
 use Rattle.ht_file.specs.Places.{tags_fit}
 use Rattle.ht_file.proofs.Laws.{tags_fit_facts}
 use Rattle.probe.specs.declared.ProbeSequence.{ProbeSequence}
-use Rattle.probe.specs.InnerWalk.{stands, Ready, Met}
-use Rattle.probe.specs.Path.{visit, visits, stop_at, nowhere, first_stop, path_from, stops_probe}
+use Rattle.probe.specs.InnerWalk.{stands, Stepped}
+use Rattle.probe.specs.Path.{visit, visits, stop_at, nowhere, first_stop, path_from}
 use Rattle.probe.proofs.Visits.{visit_below, visit_next}
 
 -- a table that fits has a tag for each bucket
@@ -19,18 +19,15 @@ pub tags_room : (ts : List ℕ) (n : ℕ) → tags_fit n (length ts) ≡ true �
 tags_room ts n e = let f = tags_fit_facts n (length ts) e in (f.0, f.1, omega arith)
 
 -- a walk's bucket and step are below n
-pub stands_below : (n h : ℕ) (p : ProbeSequence) → 0 < n → stands n h p → (p.bucket < n) × (p.step < n)
-stands_below n h p l s = (omega (arith, s.0, visit_below n h p.visit l), omega (arith, s.1, mod-lt (p.visit + 1) {m = n} l))
-
--- what a step of the walk makes of it
-abbrev pub Stepped : ℕ → ProbeSequence → ProbeSequence → Type 0
-Stepped n p q = (q.visit ≡ p.visit + 1) × (q.bucket ≡ (p.bucket + p.step) % n) × (q.step ≡ (p.step + 1) % n)
+pub stands_below : (n h k : ℕ) (p : ProbeSequence) → 0 < n → stands n h k p → (p.bucket < n) × (p.step < n)
+stands_below n h k p l s = (omega (arith, s.1, visit_below n h k l), omega (arith, s.2, mod-lt (k + 1) {m = n} l))
 
 -- the step leads to the next visit
-pub stands_next : (n h : ℕ) (p q : ProbeSequence) → stands n h p → Stepped n p q → stands n h q
-stands_next n h p q s e = (
-  e.1 ∙ ap₂ (λ (b d : ℕ). (b + d) % n) s.0 s.1 ∙ add-mod-mod (visit n h p.visit) (p.visit + 1) n ∙ visit_next n h p.visit ∙ ap (visit n h) (sym e.0),
-  e.2 ∙ ap (λ (d : ℕ). (d + 1) % n) s.1 ∙ mod-add-mod (p.visit + 1) n 1 ∙ ap (λ (k : ℕ). (k + 1) % n) (sym e.0),
+pub stands_next : (n h k : ℕ) (p q : ProbeSequence) → stands n h k p → Stepped p q → stands n h (k + 1) q
+stands_next n h k p q s e = (
+  e.0 ∙ s.0,
+  e.1 ∙ ap (λ (m : ℕ). (p.bucket + p.step) % m) s.0 ∙ ap₂ (λ (b d : ℕ). (b + d) % n) s.1 s.2 ∙ add-mod-mod (visit n h k) (k + 1) n ∙ visit_next n h k,
+  e.2 ∙ ap (λ (m : ℕ). (p.step + 1) % m) s.0 ∙ ap (λ (d : ℕ). (d + 1) % n) s.2 ∙ mod-add-mod (k + 1) n 1,
 )
 
 -- no visit from s on and before k passes the test
@@ -121,82 +118,43 @@ module _ (p : ℕ → Bool) (n h : ℕ) where
           before {j} (yes i) x y f = ap (λ (w : ℕ). p (visit n h w)) (sym i) ∙ q
           before {j} (no i) x y f = f j (omega arith) y
 
--- at a stop of the code's walk from visit s on: where it stands, and that no visit before passes the test; each bucket is below len
-pub record Walking (test : ℕ → Bool) (len n h s : ℕ) (p : ProbeSequence) : Type 0 where
+-- the code's walk from visit s on stands at visit k, and no visit before passes the test; each bucket is below len
+pub record Walking (test : ℕ → Bool) (len n h s k : ℕ) (p : ProbeSequence) : Type 0 where
   pub some : 0 < n
   pub few : n ≤ 1048576
   pub room : n ≤ len
-  pub early : s < 2 * n
-  pub from : s ≤ p.visit
-  pub within : p.visit ≤ s + 2 * n
-  pub stand : stands n h p
-  pub passed : Passed test n h s p.visit
+  pub stand : stands n h k p
+  pub passed : Passed test n h s k
 
 module _ (test : ℕ → Bool) (len n h s : ℕ) where
-  pub walk_start : (p : ProbeSequence) → 0 < n → n ≤ 1048576 → n ≤ len → s < 2 * n → (p.visit ≡ s) × stands n h p → Walking test len n h s p
-  walk_start p a b d l e =
-      record {
-        some = a;
-        few = b;
-        room = d;
-        early = l;
-        from = omega arith;
-        within = omega arith;
-        stand = e.1;
-        passed = subst (Passed test n h s) (sym e.0) (passed_none test n h s);
-      }
+  pub walk_start : (p : ProbeSequence) → 0 < n → n ≤ 1048576 → n ≤ len → stands n h s p → Walking test len n h s s p
+  walk_start p a b d e = record { some = a; few = b; room = d; stand = e; passed = passed_none test n h s }
 
-  module _ (p : ProbeSequence) (w : Walking test len n h s p) where
-    pub walk_ready : (end : ℕ) → end ≡ s + 2 * n → Ready len n h end p
-    walk_ready end e = (w.some, w.few, w.room, omega (arith, w.early), omega (arith, w.within), w.stand)
-
+  module _ (k : ℕ) (p : ProbeSequence) (w : Walking test len n h s k p) where
     pub walk_below : (p.bucket < n) × (p.step < n)
-    walk_below = stands_below n h p w.some w.stand
+    walk_below = stands_below n h k p w.some w.stand
 
-    -- the walk stops here
-    pub walk_stop : p.visit < s + 2 * n → test p.bucket ≡ true → first_stop test s (path_from n h s) ≡ stop_at p.bucket p.visit
-    walk_stop l e =
-        stop_here test n h s (2 * n) p.visit w.from l w.passed (ap test (sym w.stand.0) ∙ e) ∙ ap (λ (b : ℕ). stop_at b p.visit) (sym w.stand.0)
+    -- the walk can go on
+    pub walk_ready : (p.n ≤ 1048576) × (p.bucket < p.n) × (p.step < p.n)
+    walk_ready = (omega (arith, w.few, w.stand.0), omega (arith, walk_below, w.stand.0), omega (arith, walk_below, w.stand.0))
+
+    -- it stops here
+    pub walk_stop : s ≤ k → k < s + 2 * n → (b : ℕ) → b ≡ p.bucket → test b ≡ true → first_stop test s (path_from n h s) ≡ stop_at b k
+    walk_stop from within b here e =
+        let at : b ≡ visit n h k = here ∙ w.stand.1 in
+        stop_here test n h s (2 * n) k from within w.passed (ap test (sym at) ∙ e) ∙ ap (λ (c : ℕ). stop_at c k) (sym at)
 
     -- or makes a step
-    pub walk_next : (q : ProbeSequence) → p.visit < s + 2 * n → test p.bucket ≡ false → Stepped n p q → Walking test len n h s q
-    walk_next q l e d =
+    pub walk_next : (q : ProbeSequence) (b : ℕ) → b ≡ p.bucket → test b ≡ false → Stepped p q → Walking test len n h s (k + 1) q
+    walk_next q b here e d =
         record {
           some = w.some;
           few = w.few;
           room = w.room;
-          early = w.early;
-          from = omega (arith, d.0, w.from);
-          within = omega (arith, d.0);
-          stand = stands_next n h p q w.stand d;
-          passed = subst (Passed test n h s) (sym d.0) (passed_more test n h s p.visit w.passed (ap test (sym w.stand.0) ∙ e));
+          stand = stands_next n h k p q w.stand d;
+          passed = passed_more test n h s k w.passed (ap test (sym (here ∙ w.stand.1)) ∙ e);
         }
-
-    -- or goes to the next empty, tombstone or hit, where the test passes at no other tag
-    pub walk_met : (ts : List ℕ) (end : ℕ) (r : ProbeSequence) → end ≡ s + 2 * n → ((b : ℕ) → test b ≡ true → stops_probe ts h b ≡ true) → Met ts n h end p r
-        → Walking test len n h s r
-    walk_met ts end r e stops m =
-        record {
-          some = w.some;
-          few = w.few;
-          room = w.room;
-          early = w.early;
-          from = omega (arith, m.on, w.from);
-          within = omega (arith, m.within);
-          stand = m.stand;
-          passed = λ j a b. go j a b (dec_lt j p.visit);
-        }
-      where
-        apart : (j : ℕ) → stops_probe ts h (visit n h j) ≡ false → (t : Bool) → test (visit n h j) ≡ t → test (visit n h j) ≡ false
-        apart j f true q = absurd (true≢false (sym (stops (visit n h j) q) ∙ f))
-        apart j f false q = q
-
-        go : (j : ℕ) → s ≤ j → j < r.visit → Dec (j < p.visit) → test (visit n h j) ≡ false
-        go j a b (yes d) = w.passed j a d
-        go j a b (no d) = apart j (m.passed j (omega arith) b) (test (visit n h j)) refl
 
     -- or has made all its visits
-    pub walk_end : s + 2 * n ≤ p.visit → first_stop test s (path_from n h s) ≡ nowhere
-    walk_end l =
-        let e : p.visit ≡ s + 2 * n = omega (arith, w.within) in
-        stop_never test n h s (2 * n) (subst (Passed test n h s) e w.passed)
+    pub walk_end : s + 2 * n ≡ k → first_stop test s (path_from n h s) ≡ nowhere
+    walk_end e = stop_never test n h s (2 * n) (subst (Passed test n h s) (sym e) w.passed)

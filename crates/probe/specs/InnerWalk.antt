@@ -1,20 +1,12 @@
--- What the code's one walk along the path keeps to; none of this is in what a call answers. Assumes nothing.
-use Rattle.std.specs.Prelude.{◌≡◌, true, false, List, ℕ, ◌+◌, ◌*◌, ◌%◌, ◌≤◌, ◌<◌}
-use Rattle.probe.specs.Path.{visit, stops_probe}
+-- How the code walks along a path; none of this is in what a call answers. Assumes nothing.
+use Rattle.std.specs.Prelude.{◌≡◌, ℕ, ◌+◌, ◌%◌}
+use Rattle.probe.specs.Path.{visit}
 use Rattle.probe.specs.declared.ProbeSequence.{ProbeSequence}
 
--- a walk's state stands at its visit, and its step leads to the next one
-abbrev pub stands : ℕ → ℕ → ProbeSequence → Type 0
-stands n h p = (p.bucket ≡ visit n h p.visit) × (p.step ≡ (p.visit + 1) % n)
+-- the path of the hash h stands at visit k, and its step leads to the next one
+abbrev pub stands : ℕ → ℕ → ℕ → ProbeSequence → Type 0
+stands n h k p = (p.n ≡ n) × (p.bucket ≡ visit n h k) × (p.step ≡ (k + 1) % n)
 
--- a walk that can go on up to visit `end`, over tags of this length
-abbrev pub Ready : ℕ → ℕ → ℕ → ℕ → ProbeSequence → Type 0
-Ready len n h end p = (0 < n) × (n ≤ 1048576) × (n ≤ len) × (end ≤ 4 * n) × (p.visit ≤ end) × stands n h p
-
--- it is at the first stop from p on, or at `end`
-pub record Met (ts : List ℕ) (n h end : ℕ) (p r : ProbeSequence) : Type 0 where
-  pub stand : stands n h r
-  pub on : p.visit ≤ r.visit
-  pub within : r.visit ≤ end
-  pub passed : (j : ℕ) → p.visit ≤ j → j < r.visit → stops_probe ts h (visit n h j) ≡ false
-  pub stops : r.visit < end → stops_probe ts h r.bucket ≡ true
+-- what a step makes of it
+abbrev pub Stepped : ProbeSequence → ProbeSequence → Type 0
+Stepped p q = (q.n ≡ p.n) × (q.bucket ≡ (p.bucket + p.step) % p.n) × (q.step ≡ (p.step + 1) % p.n)

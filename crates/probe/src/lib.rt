@@ -8,17 +8,17 @@ ghost use Rattle.answers.specs.Answers.{answer_of};
 ghost use Rattle.answers.specs.Refusals.{number_of};
 ghost use Rattle.blocks.specs.Blocks.{same_bytes};
 ghost use Rattle.probe.specs.Path.{probe_answer, lookup_answer, hit_limit, allows, no_bucket_by, allocate_answer, allocated_tags, probed_said, found_said};
-ghost use Rattle.probe.specs.InnerWalk.{stands, Ready, Met};
+ghost use Rattle.probe.specs.InnerWalk.{stands, Stepped};
 
 use answers::Refusal;
-use ht_file::{ID_AT, ID_SIZE};
+use ht_file::ID_AT;
 use meta_map::{EMPTY, TOMBSTONE};
 
 // So many hits are let through by document 01.
 const MAX_HITS: usize = 9998;
 
 // What probing on comes to first: a bucket, and the number of its visit.
-#[derive(Clone, Copy)]
+#[derive(Clone, Copy, Debug, PartialEq, Eq)]
 pub enum Probed {
     Empty { bucket: u64, visit: u64 },
     Tombstone { bucket: u64, visit: u64 },
@@ -27,83 +27,55 @@ pub enum Probed {
 }
 
 // What lookup answers: the bucket that holds the page, or that no bucket does.
-#[derive(Clone, Copy)]
+#[derive(Clone, Copy, Debug, PartialEq, Eq)]
 pub enum Found {
     At(u64),
     Absent,
     Closed,
 }
 
-// Where a walk along the path stands: the visit, its bucket, and how far on the next one lies, less
-// whole rounds.
-#[derive(Clone, Copy)]
+// A hash's path through n buckets: the bucket of its next visit, and how far on the one after that lies,
+// less whole rounds.
+#[derive(Drop)]
 struct ProbeSequence {
-    visit: usize,
+    n: usize,
     bucket: usize,
     step: usize,
 }
 
-// A number below 2n without its whole round.
+// x % n for an x below 2n, without a division.
 fn rounded(x: usize, n: usize) -> usize
     requires { x < 2 * n }
     ensures { result ≡ x % n }
 {
-    if x < n {
-        return x;
+    match x.checked_sub(n) {
+        Some(rest) => rest,
+        None => x,
     }
-    x - n
 }
 
 impl ProbeSequence {
-    // The walk at its visit k.
+    // The path from visit k on.
     fn new(n: usize, hash: u64, k: usize) -> Self
         requires { (0 < n) × (n ≤ 1048576) × (k < 2 * n) }
-        ensures { (result.visit ≡ k) × stands n hash result }
+        ensures { stands n hash k result }
     {
         let home = (hash % n as u64) as usize;
         Self {
-            visit: k,
+            n,
             bucket: (home + k * (k + 1) / 2) % n,
             step: (k + 1) % n,
         }
     }
 
-    // The walk one visit on: triangular probing.
-    fn next(self, n: usize) -> Self
-        requires { (n ≤ 1048576) × (self.visit < 4 * n) × (self.bucket < n) × (self.step < n) }
-        ensures { (result.visit ≡ self.visit + 1) × (result.bucket ≡ (self.bucket + self.step) % n) × (result.step ≡ (self.step + 1) % n) }
+    // The path goes on to its next visit: triangular probing.
+    fn advance(&mut self)
+        requires { (self.old.n ≤ 1048576) × (self.old.bucket < self.old.n) × (self.old.step < self.old.n) }
+        ensures { Stepped self.old self.new }
     {
-        Self {
-            visit: self.visit + 1,
-            bucket: rounded(self.bucket + self.step, n),
-            step: rounded(self.step + 1, n),
-        }
+        self.bucket = rounded(self.bucket + self.step, self.n);
+        self.step = rounded(self.step + 1, self.n);
     }
-}
-
-// The walk at its first stop from here on, an empty bucket, a tombstone or a hit; or at `end`, where none comes
-// before.
-fn next_stop(tags: &[u8], n: usize, hash: u64, from: ProbeSequence, end: usize) -> ProbeSequence
-    requires { Ready (length tags.now) n hash end «from» }
-    ensures { Met tags.now n hash end «from» result }
-{
-    let full = meta_map::full_entry(hash);
-    let mut p = from;
-    while p.visit < end {
-        let b = p.bucket;
-        let tag = tags[b];
-        if tag == EMPTY {
-            return p;
-        }
-        if tag == TOMBSTONE {
-            return p;
-        }
-        if tag == full {
-            return p;
-        }
-        p = p.next(n);
-    }
-    p
 }
 
 // The first empty, tombstone or hit among the 2n visits from visit k on, k taken mod 2n.
@@ -111,53 +83,35 @@ pub fn probe_from(tags: &[u8], n: usize, hash: u64, k: u64) -> Result<Probed, Re
     ensures { probed_said result ≡ probe_answer tags.now n hash k }
 {
     ht_file::check_tags(n, tags.len())?;
-    let start = (k % (2 * n as u64)) as usize;
-    let end = start + 2 * n;
-    let first = ProbeSequence::new(n, hash, start);
-    let p = next_stop(tags, n, hash, first, end);
-    if end <= p.visit {
-        return Ok(Probed::Closed);
+    let full = meta_map::full_entry(hash);
+    let start = k % (2 * n as u64);
+    let end = start + 2 * n as u64;
+    let mut path = ProbeSequence::new(n, hash, start as usize);
+    for visit in start..end {
+        let tag = tags[path.bucket];
+        let bucket = path.bucket as u64;
+        if tag == EMPTY {
+            return Ok(Probed::Empty { bucket, visit });
+        }
+        if tag == TOMBSTONE {
+            return Ok(Probed::Tombstone { bucket, visit });
+        }
+        if tag == full {
+            return Ok(Probed::PossibleHit { bucket, visit });
+        }
+        path.advance();
     }
-    let b = p.bucket;
-    let hint = tags[b];
-    if hint == EMPTY {
-        return Ok(Probed::Empty {
-            bucket: b as u64,
-            visit: p.visit as u64,
-        });
-    }
-    if hint == TOMBSTONE {
-        return Ok(Probed::Tombstone {
-            bucket: b as u64,
-            visit: p.visit as u64,
-        });
-    }
-    Ok(Probed::PossibleHit {
-        bucket: b as u64,
-        visit: p.visit as u64,
-    })
+    Ok(Probed::Closed)
 }
 
-// Whether the 32 bytes at a place are the id; there may be fewer. All of them are looked at, which is the faster
-// way.
+// Whether the 32 bytes at a place are the id; there may be fewer.
 pub fn ends_in(image: &[u8], at: usize, id: [u8; 32]) -> bool
     ensures { result ≡ same_bytes (take 32 (drop at image.now)) id }
 {
-    if image.len() < ID_SIZE {
-        return false;
+    match image.get(at..) {
+        Some(rest) => rest.starts_with(&id),
+        None => false,
     }
-    if image.len() - ID_SIZE < at {
-        return false;
-    }
-    let mut same = true;
-    let mut i = 0;
-    while i < ID_SIZE {
-        if image[at + i] != id[i] {
-            same = false;
-        }
-        i += 1;
-    }
-    same
 }
 
 // The bucket whose page ends in the id: the first such hit, unless an empty visit comes before it.
@@ -166,22 +120,17 @@ pub fn lookup(image: &[u8], n: usize, hash: u64, id: [u8; 32]) -> Result<Found, 
 {
     ht_file::check_image(n, image.len())?;
     let full = meta_map::full_entry(hash);
-    let end = 2 * n;
-    let first = ProbeSequence::new(n, hash, 0);
-    let mut p = next_stop(image, n, hash, first, end);
-    while p.visit < end {
-        let b = p.bucket;
-        let tag = image[b];
+    let mut path = ProbeSequence::new(n, hash, 0);
+    for _visit in 0..2 * n {
+        let bucket = path.bucket;
+        let tag = image[bucket];
         if tag == EMPTY {
             return Ok(Found::Absent);
         }
-        if tag == full {
-            if ends_in(image, ht_file::page_start(n, b) + ID_AT, id) {
-                return Ok(Found::At(b as u64));
-            }
+        if tag == full && ends_in(image, ht_file::page_start(n, bucket) + ID_AT, id) {
+            return Ok(Found::At(bucket as u64));
         }
-        let on = p.next(n);
-        p = next_stop(image, n, hash, on, end);
+        path.advance();
     }
     Ok(Found::Closed)
 }
@@ -197,10 +146,7 @@ pub fn hit_limit() -> Option<usize>
 fn within_limit(limit: Option<usize>, hits: usize) -> bool
     ensures { result ≡ allows limit hits }
 {
-    match limit {
-        Some(most) => hits <= most,
-        None => true,
-    }
+    limit.is_none_or(|most| hits <= most)
 }
 
 // Why no bucket is given on a path with so many hits.
@@ -219,22 +165,21 @@ pub fn find_bucket(tags: &[u8], n: usize, hash: u64, limit: Option<usize>) -> Re
 {
     ht_file::check_tags(n, tags.len())?;
     let full = meta_map::full_entry(hash);
-    let end = 2 * n;
-    let first = ProbeSequence::new(n, hash, 0);
-    let mut p = next_stop(tags, n, hash, first, end);
+    let mut path = ProbeSequence::new(n, hash, 0);
     let mut hits: usize = 0;
-    while p.visit < end {
-        let b = p.bucket;
-        if tags[b] != full {
-            return Ok(b as u64);
+    for _visit in 0..2 * n {
+        let bucket = path.bucket;
+        let tag = tags[bucket];
+        if tag == EMPTY || tag == TOMBSTONE {
+            return Ok(bucket as u64);
         }
-        hits += 1;
-        if within_limit(limit, hits) {
-            let on = p.next(n);
-            p = next_stop(tags, n, hash, on, end);
-        } else {
-            return Err(Refusal::PathCrowded);
+        if tag == full {
+            hits += 1;
+            if !within_limit(limit, hits) {
+                return Err(Refusal::PathCrowded);
+            }
         }
+        path.advance();
     }
     Err(no_bucket(limit, hits))
 }

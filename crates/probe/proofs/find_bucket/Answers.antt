@@ -1,7 +1,6 @@
--- The code's walk stops at each free visit and at each hit and counts the hits, so no visit that it passes is free: where it stops the
--- definition stops, and past the limit no later visit helps. Assumes nothing.
-use Rattle.std.proofs.Common.{◌≡◌, refl, sym, ap, ap₂, ◌∙◌, arith, Bool, true, false, ◌||◌, List, ℕ, ◌+◌, ◌-◌, ◌*◌, ◌≤◌, ◌<◌, length, get_or}
-use mathlib.Core.Bool.{true≢false}
+-- The code counts the hits that it passes and no visit that it passes is free: where it stops the definition stops, and past the limit no later
+-- visit helps. Assumes nothing.
+use Rattle.std.proofs.Common.{◌≡◌, refl, sym, ap, ap₂, ◌∙◌, arith, Bool, true, false, List, ℕ, ◌+◌, ◌*◌, ◌≤◌, ◌<◌, length, get_or}
 use borrow.Author.Tests.{eq-eqb, ne_eqb}
 use Rattle.answers.specs.Answers.{Answer, given, refused}
 use Rattle.answers.specs.Refusals.{number_of}
@@ -9,128 +8,115 @@ use Rattle.ht_file.specs.Places.{tags_fit}
 use Rattle.ht_file.proofs.Laws.{table_fits}
 use Rattle.meta_map.specs.Tags.{full_tag, one}
 use Rattle.probe.specs.declared.ProbeSequence.{ProbeSequence}
-use Rattle.probe.specs.InnerWalk.{Met}
-use Rattle.probe.specs.Path.{Limit, is_free, is_hit, stops_probe, free_at, allows, no_bucket_by, allocating, allocate_answer}
-use Rattle.probe.proofs.Tests.{full_not_free}
+use Rattle.probe.specs.InnerWalk.{Stepped}
+use Rattle.probe.specs.Path.{Limit, is_hit, free_at, allows, no_bucket_by, allocating, allocate_answer}
+use Rattle.probe.proofs.Tests.{empty_is, empty_not, tombstone_is, free_not, full_not_free}
 use Rattle.probe.proofs.Visits.{hits_none, hits_next}
-use Rattle.probe.proofs.Walk.{tags_room, passed_more, Stepped, Walking, walk_start, walk_ready, walk_below, walk_stop, walk_next, walk_met, walk_end}
-use Rattle.probe.proofs.Allocating.{hits_to, hits_passed, allows_none, given_at, none_free, crowded}
+use Rattle.probe.proofs.Walk.{tags_room, passed_more, walk_start, walk_below, walk_ready, walk_stop, walk_next, walk_end}
+use Rattle.probe.proofs.Allocating.{hits_to, allows_none, given_at, none_free, crowded}
 use Rattle.probe.proofs.find_bucket.Invariants.{Counted}
+use Rattle.probe.proofs.find_bucket.Goals.{then-tag-full+else-not-within_limit, else-tag-full, then-tag-eq-EMPTY-via-then-tag-eq-EMPTY, then-tag-eq-EMPTY-via-else-tag-eq-EMPTY+then-tag-eq-TOMBSTONE}
 use Rattle.probe.proofs.find_bucket.Goals as goal
-
--- a free visit stops the walk
-stops-walk : (ts : List ℕ) (h b : ℕ) → free_at ts b ≡ true → stops_probe ts h b ≡ true
-stops-walk ts h b e = ap (λ (t : Bool). t || is_hit h (get_or ts b 0)) e
-
--- the walk goes on to its next stop: no hit is passed
-goes_on : (ts : List ℕ) (n h : ℕ) (limit : Limit) (p r : ProbeSequence) (m : ℕ) → Walking (free_at ts) (length ts) n h 0 p → m ≡ hits_to ts n h p.visit → allows limit m ≡ true → m ≤ p.visit
-    → Met ts n h (2 * n) p r → Counted ts n h limit r m
-goes_on ts n h limit p r m w e f l t =
-    let d : p.visit + (r.visit - p.visit) ≡ r.visit = omega (arith, t.on) in
-    record {
-      walk = walk_met (free_at ts) (length ts) n h 0 p w ts (2 * n) r (omega arith) (stops-walk ts h) t;
-      count = e ∙ sym (hits_passed ts n h p.visit (r.visit - p.visit) (λ j x y. t.passed j x (omega (arith, d, y)))) ∙ ap (λ (k : ℕ). hits_to ts n h k) d;
-      few = f;
-      small = omega (arith, t.on);
-      stops = t.stops;
-    }
 
 -- what the definition answers on tags that fit
 answered : (limit : Limit) (ts : List ℕ) (n h : ℕ) (a : Answer ℕ) → tags_fit n (length ts) ≡ true → allocating limit ts n h ≡ a → a ≡ allocate_answer limit ts n h
 answered limit ts n h a fits e = rw (fits, e)
 
-or_left : (x y : Bool) → (x || y) ≡ true → y ≡ false → x ≡ true
-or_left true y a b = refl
-or_left false y a b = absurd (true≢false (sym a ∙ b))
+-- in a turn: the walk stands at visit k, in the bucket b, past so many hits
+module _ (ts : List ℕ) (n h : ℕ) (limit : Limit) (k : ℕ) (p : ProbeSequence) (m : ℕ) (inv : Counted ts n h limit k p m) (b : ℕ) (here : b ≡ p.bucket) where
+  -- the hits with this visit
+  counted : (t : Bool) → is_hit h (get_or ts b 0) ≡ t → m + one t ≡ hits_to ts n h (k + 1)
+  counted t e =
+      ap₂ (λ (a : ℕ) (u : Bool). a + one u) inv.count (sym e ∙ ap (λ (c : ℕ). is_hit h (get_or ts c 0)) (here ∙ inv.walk.stand.1)) ∙ sym (hits_next ts n h k)
 
--- in a turn: the walk stands at p, past so many hits
-module _ (ts : List ℕ) (n h : ℕ) (limit : Limit) (p : ProbeSequence) (m : ℕ) (inv : Counted ts n h limit p m) where
-  below : (p.bucket < n) × (p.step < n)
-  below = walk_below (free_at ts) (length ts) n h 0 p inv.walk
+  -- a free bucket is given
+  gives : k < 2 * n → tags_fit n (length ts) ≡ true → free_at ts b ≡ true → given b ≡ allocate_answer limit ts n h
+  gives within fits e =
+      answered limit ts n h (given b) fits
+      (given_at limit ts n h b k (walk_stop (free_at ts) (length ts) n h 0 k p inv.walk (omega arith) (omega arith) b here e) (ap (allows limit) (sym inv.count) ∙ inv.few))
 
-  -- the tag is the hash's: a hit more, and no free bucket
-  counted : get_or ts p.bucket 0 ≡ full_tag h → m + 1 ≡ hits_to ts n h (p.visit + 1)
-  counted e =
-      let hit : is_hit h (get_or ts p.bucket 0) ≡ true = eq-eqb (get_or ts p.bucket 0) (full_tag h) e in
-      ap₂ (λ (a : ℕ) (b : Bool). a + one b) inv.count (sym hit ∙ ap (λ (b : ℕ). is_hit h (get_or ts b 0)) inv.walk.stand.0) ∙ sym (hits_next ts n h p.visit)
+  -- a step on from another
+  goes : (q : ProbeSequence) (m' : ℕ) (t : Bool) → free_at ts b ≡ false → is_hit h (get_or ts b 0) ≡ t → m' ≡ m + one t → allows limit m' ≡ true → m' ≤ k + 1 → Stepped p q
+      → Counted ts n h limit (k + 1) q m'
+  goes q m' t e f g few small d =
+      record {
+        walk = walk_next (free_at ts) (length ts) n h 0 k p inv.walk q b here e d;
+        count = g ∙ counted t f;
+        few = few;
+        small = small;
+      }
 
-  -- the step on from here
-  stepped : (on : ProbeSequence) → p.visit < 2 * n → get_or ts p.bucket 0 ≡ full_tag h → Stepped n p on → Walking (free_at ts) (length ts) n h 0 on
-  stepped on within e d = walk_next (free_at ts) (length ts) n h 0 p inv.walk on (omega arith) (full_not_free h (get_or ts p.bucket 0) e) d
-
-pub loop-p-init : goal.loop-p-init
-loop-p-init c =
+pub loop-visit-init : goal.loop-visit-init
+loop-visit-init c =
     let a = c.args in
     let ts : List ℕ = a.tags.now in
     let f = tags_room ts a.n (table_fits _ (sym c.in_ok-check_tags.ensures)) in
-    let new = c.new-first.ensures in
-    goes_on ts a.n a.hash a.limit c.new-first.result c.next_stop-p.result 0 (walk_start (free_at ts) (length ts) a.n a.hash 0 c.new-first.result f.0 f.1 f.2 (omega (arith, f.0)) new)
-    (sym (ap (λ (k : ℕ). hits_to ts a.n a.hash k) new.0 ∙ hits_none ts a.n a.hash 0)) (allows_none a.limit) (omega arith) c.next_stop-p.ensures
+    record {
+      walk = walk_start (free_at ts) (length ts) a.n a.hash 0 c.new-path.result f.0 f.1 f.2 c.new-path.ensures;
+      count = sym (hits_none ts a.n a.hash 0);
+      few = allows_none a.limit;
+      small = omega arith;
+    }
 
-pub bounds-tags-b : goal.bounds-tags-b
-bounds-tags-b c =
+pub advance-requires : goal.advance-requires
+advance-requires c =
     let a = c.args in
-    omega (arith, below a.tags.now a.n a.hash a.limit c.loop-p.p c.loop-p.hits c.loop-p.invariant, c.loop-p.invariant.walk.room)
+    walk_ready (free_at a.tags.now) (length a.tags.now) a.n a.hash 0 c.loop-visit._visit c.loop-visit.path c.loop-visit.invariant.walk
 
-pub returns-then-tags-b : goal.returns-then-tags-b
-returns-then-tags-b c =
+pub bounds-tags-bucket : goal.bounds-tags-bucket
+bounds-tags-bucket c =
     let a = c.args in
-    let ts : List ℕ = a.tags.now in
-    let p = c.loop-p.p in
-    let inv = c.loop-p.invariant in
-    let tag : ℕ = get_or ts p.bucket 0 in
-    let miss = ne_eqb tag (full_tag a.hash) (λ q. c.if-tags-b.true (q ∙ sym c.full_entry-full.ensures)) in
-    answered a.limit ts a.n a.hash (given p.bucket) (table_fits _ (sym c.in_ok-check_tags.ensures))
-    (given_at a.limit ts a.n a.hash p.bucket p.visit
-    (walk_stop (free_at ts) (length ts) a.n a.hash 0 p inv.walk (omega (arith, c.loop-p-test.true)) (or_left (is_free tag) (is_hit a.hash tag) (inv.stops c.loop-p-test.true) miss))
-    (ap (allows a.limit) (sym inv.count) ∙ inv.few))
+    let below = walk_below (free_at a.tags.now) (length a.tags.now) a.n a.hash 0 c.loop-visit._visit c.loop-visit.path c.loop-visit.invariant.walk in
+    omega (arith, below.0, c.loop-visit.invariant.walk.room)
 
-pub next-on-requires : goal.next-on-requires
-next-on-requires c =
-    let a = c.args in
-    let under = below a.tags.now a.n a.hash a.limit c.loop-p.p c.loop-p.hits c.loop-p.invariant in
-    (c.loop-p.invariant.walk.few, omega (arith, c.loop-p-test.true), under.0, under.1)
-
-pub next_stop-p-requires-then-within_limit : goal.next_stop-p-requires-then-within_limit
-next_stop-p-requires-then-within_limit c =
-    let a = c.args in
-    walk_ready (free_at a.tags.now) (length a.tags.now) a.n a.hash 0 c.next-on.result
-    (stepped a.tags.now a.n a.hash a.limit c.loop-p.p c.loop-p.hits c.loop-p.invariant c.next-on.result c.loop-p-test.true (c.if-tags-b.false ∙ c.full_entry-full.ensures) c.next-on.ensures)
-    (2 * a.n) (omega arith)
-
-pub loop-p-preserved : goal.loop-p-preserved
-loop-p-preserved c =
+pub returns-then-not-within_limit : goal.returns-then-not-within_limit
+returns-then-not-within_limit c =
     let a = c.args in
     let ts : List ℕ = a.tags.now in
-    let inv = c.loop-p.invariant in
-    let tag = c.if-tags-b.false ∙ c.full_entry-full.ensures in
-    let step = c.next-on.ensures.0 in
-    let went = stepped ts a.n a.hash a.limit c.loop-p.p c.loop-p.hits inv c.next-on.result c.loop-p-test.true tag c.next-on.ensures in
-    goes_on ts a.n a.hash a.limit c.next-on.result c.next_stop-p-then-within_limit.result (c.loop-p.hits + 1) went
-    (counted ts a.n a.hash a.limit c.loop-p.p c.loop-p.hits inv tag ∙ ap (λ (k : ℕ). hits_to ts a.n a.hash k) (sym step))
-    (sym c.if-within_limit.ensures) (omega (arith, step, inv.small)) c.next_stop-p-then-within_limit.ensures
-
-pub returns-else-within_limit : goal.returns-else-within_limit
-returns-else-within_limit c =
-    let a = c.args in
-    let ts : List ℕ = a.tags.now in
-    let p = c.loop-p.p in
-    let inv = c.loop-p.invariant in
-    let tag = c.if-tags-b.false ∙ c.full_entry-full.ensures in
-    let count = counted ts a.n a.hash a.limit p c.loop-p.hits inv tag in
-    let not_free = full_not_free a.hash (get_or ts p.bucket 0) tag in
-    let passed = passed_more (free_at ts) a.n a.hash 0 p.visit inv.walk.passed (ap (free_at ts) (sym inv.walk.stand.0) ∙ not_free) in
+    let k = c.loop-visit._visit in
+    let b = c.loop-visit.path.bucket in
+    let inv = c.loop-visit.invariant in
+    let tag = c.if-tag-full.true ∙ c.full_entry-full.ensures in
+    let count = counted ts a.n a.hash a.limit k c.loop-visit.path c.loop-visit.hits inv b refl true (eq-eqb (get_or ts b 0) (full_tag a.hash) tag) in
+    let not_free = full_not_free a.hash (get_or ts b 0) tag in
+    let passed = passed_more (free_at ts) a.n a.hash 0 k inv.walk.passed (ap (free_at ts) (sym (refl ∙ inv.walk.stand.1)) ∙ not_free) in
     answered a.limit ts a.n a.hash (refused 10) (table_fits _ (sym c.in_ok-check_tags.ensures))
-    (crowded a.limit ts a.n a.hash (p.visit + 1) (omega (arith, c.loop-p-test.true)) passed (omega (arith, count))
-    (ap (allows a.limit) (sym count) ∙ sym c.if-within_limit.ensures))
+    (crowded a.limit ts a.n a.hash (k + 1) (omega (arith, c.loop-visit-test.true)) passed (omega (arith, count))
+    (ap (allows a.limit) (sym count) ∙ sym c.if-not-within_limit.ensures))
+
+pub loop-visit-preserved : goal.loop-visit-preserved
+loop-visit-preserved c =
+    let a = c.args in
+    let ts : List ℕ = a.tags.now in
+    let k = c.loop-visit._visit in
+    let b = c.loop-visit.path.bucket in
+    let tag : ℕ = get_or ts b 0 in
+    let inv = c.loop-visit.invariant in
+    let free : free_at ts b ≡ false = free_not tag c.if-tag-eq-EMPTY.false c.if-tag-eq-TOMBSTONE.false in
+    elim c.if-tag-full.branch [
+      | then-tag-full+else-not-within_limit w ↦ goes ts a.n a.hash a.limit k c.loop-visit.path c.loop-visit.hits inv b refl c.advance.new.self c.if-tag-full.hits true free (eq-eqb tag (full_tag a.hash) (w.if-tag-full.true ∙ c.full_entry-full.ensures)) w.hits-is (ap (allows a.limit) w.hits-is ∙ sym w.if-not-within_limit.ensures) (omega (arith, w.hits-is, inv.small)) c.advance.ensures
+      | else-tag-full w ↦ goes ts a.n a.hash a.limit k c.loop-visit.path c.loop-visit.hits inv b refl c.advance.new.self c.if-tag-full.hits false free (ne_eqb tag (full_tag a.hash) (λ q. w.if-tag-full.false (q ∙ sym c.full_entry-full.ensures))) (w.hits-is ∙ omega arith) (ap (allows a.limit) w.hits-is ∙ inv.few) (omega (arith, w.hits-is, inv.small)) c.advance.ensures
+    ]
+
+pub returns-then-tag-eq-EMPTY : goal.returns-then-tag-eq-EMPTY
+returns-then-tag-eq-EMPTY c =
+    let a = c.args in
+    let ts : List ℕ = a.tags.now in
+    let b = c.loop-visit.path.bucket in
+    let tag : ℕ = get_or ts b 0 in
+    let free : free_at ts b ≡ true =
+    elim c.then-tag-eq-EMPTY.branch [
+      | then-tag-eq-EMPTY-via-then-tag-eq-EMPTY w ↦ let e = empty_is tag w.if-tag-eq-EMPTY.true in rw e
+      | then-tag-eq-EMPTY-via-else-tag-eq-EMPTY+then-tag-eq-TOMBSTONE w ↦ let e = empty_not tag w.if-tag-eq-EMPTY.false in let d = tombstone_is tag w.if-tag-eq-TOMBSTONE.true in rw (e, d)
+    ] in
+    gives ts a.n a.hash a.limit c.loop-visit._visit c.loop-visit.path c.loop-visit.hits c.loop-visit.invariant b refl c.loop-visit-test.true (table_fits _ (sym c.in_ok-check_tags.ensures)) free
 
 pub returns : goal.returns
 returns c =
     let a = c.args in
     let ts : List ℕ = a.tags.now in
-    let inv = c.loop-p.invariant in
-    let past = c.loop-p-test.false in
-    let last : c.loop-p.p.visit ≡ 2 * a.n = omega (arith, inv.walk.within, past) in
+    let inv = c.loop-visit.invariant in
+    let last : 2 * a.n ≡ c.loop-visit._visit = omega (arith, c.loop-visit-test.false, c.loop-visit.auto) in
     answered a.limit ts a.n a.hash (refused (number_of c.no_bucket.result)) (table_fits _ (sym c.in_ok-check_tags.ensures))
-    (none_free a.limit ts a.n a.hash (walk_end (free_at ts) (length ts) a.n a.hash 0 c.loop-p.p inv.walk (omega (arith, past)))
-    ∙ ap refused (ap (no_bucket_by a.limit) (ap (λ (k : ℕ). hits_to ts a.n a.hash k) (sym last) ∙ sym inv.count) ∙ sym c.no_bucket.ensures))
+    (none_free a.limit ts a.n a.hash (walk_end (free_at ts) (length ts) a.n a.hash 0 c.loop-visit._visit c.loop-visit.path inv.walk (omega (arith, last)))
+    ∙ ap refused (ap (no_bucket_by a.limit) (ap (λ (k : ℕ). hits_to ts a.n a.hash k) last ∙ sym inv.count) ∙ sym c.no_bucket.ensures))

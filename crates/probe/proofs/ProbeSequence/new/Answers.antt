@@ -4,4 +4,4 @@ use Rattle.probe.proofs.Visits.{visit_from}
 use Rattle.probe.proofs.ProbeSequence.new.Goals as goal
 
 pub returns : goal.returns
-returns c = (refl, (visit_from c.args.n c.args.hash c.args.k, refl))
+returns c = (refl, (visit_from c.args.n c.args.hash c.args.k), refl)
