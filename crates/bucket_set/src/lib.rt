@@ -13,9 +13,8 @@ pub fn add(set: &mut [u64], i: usize)
     ensures { set.new ≡ with_number set.old i }
 {
     let w = i / 64;
-    let s = i % 64;
     if w < set.len() {
-        set[w] = set[w] | 1 << s;
+        set[w] |= 1 << (i % 64);
     }
 }
 
@@ -23,23 +22,13 @@ pub fn add(set: &mut [u64], i: usize)
 pub fn has(set: &[u64], i: usize) -> bool
     ensures { result ≡ holds_in set.now i }
 {
-    let w = i / 64;
-    let s = i % 64;
-    if w < set.len() {
-        let x = set[w];
-        return (x >> s) % 2 == 1;
-    }
-    false
+    let word = set.get(i / 64).copied().unwrap_or(0);
+    (word >> (i % 64)) % 2 == 1
 }
 
 // Takes every number out.
 pub fn empty(set: &mut [u64])
     ensures { set.new ≡ none_of (length set.old) }
 {
-    let n = set.len();
-    let mut i = 0;
-    while i < n {
-        set[i] = 0;
-        i += 1;
-    }
+    set.fill(0);
 }
