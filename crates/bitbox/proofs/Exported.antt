@@ -6,6 +6,7 @@ use mathlib.Core.List.{List}
 use Prim.Native.Nat.{ℕ}
 use native.Mathlib.Omega.{arith}
 use lib.ListN.{length, take}
+use Rattle.std.specs.Prelude.{Result, Ok}
 use Rattle.ht_file.specs.Places.{image_fits}
 use Rattle.answers.specs.Answers.{given}
 use Rattle.recover.specs.Replay.{applied, replay_answer, Own}
@@ -13,12 +14,13 @@ use Rattle.recover.specs.declared.Expected.{Expected}
 use Rattle.wal.specs.Run.{end_of}
 use Rattle.wal.specs.declared.AfterEnd.{AfterEnd}
 use Rattle.wal.specs.declared.Start.{Start}
+use Rattle.wal.specs.declared.Writer.{Writer}
 use Rattle.wal.specs.Reader.{read_log}
 use Rattle.sync.specs.Change.{Mem}
 use Rattle.sync.specs.Sync.{entries_of, hashes_of, start_mem, start_state, SyncSaid, said_done, said_refused, said_refused_at, sync_says, sync_writer, widths_by, SyncPromise}
 use Rattle.sync.specs.declared.Change.{Change}
-use Rattle.sync.specs.declared.SyncAnswer.{SyncAnswer as Answer}
-use Rattle.sync.specs.declared.Synced.TheVariants.{Done}
+use Rattle.sync.specs.declared.SyncRefusal.{SyncRefusal}
+use Rattle.sync.specs.declared.Synced.{Synced}
 use Rattle.sync.proofs.Refused.{OfStart, table_unfit, lengths_unfit, no_page_of_log, OfChange, reserved_bit, cell_index, bucket_outside, bucket_unfit, no_room, path_crowded, path_closed, start_number, refused_before, refused_at_lem}
 use Rattle.sync.proofs.Promises.{sync_reads_back, sync_replays}
 use Rattle.bitbox.specs.Words.{log_start_of, writer_of, writer_words, sync_start, sync_words, SyncExport}
@@ -46,8 +48,12 @@ module _ (n : ℕ) (m : Mem) (pages : List ℕ) (cs : List Change) (from : LogSt
   start = log_start_of from
 
   -- the answer of `sync` that these words say
-  abbrev pub answered : Answer
-  answered = record { synced = Done r.occupied r.length; writer = sync_writer n m pages cs start (writer_of w) }
+  abbrev pub answered : Result Synced SyncRefusal
+  answered = Ok (record { occupied = r.occupied; length = r.length })
+
+  -- and the writer after it
+  abbrev pub writer_left : Writer
+  writer_left = sync_writer n m pages cs start (writer_of w)
 
   done_said : sync_says n m pages cs start ≡ said_done r.occupied r.length
   done_said = go (sync_says n m pages cs start) refl
@@ -63,7 +69,7 @@ module _ (n : ℕ) (m : Mem) (pages : List ℕ) (cs : List Change) (from : LogSt
           let z : r.refusal ≡ k = ap (λ (a : SyncAnswer). a.refusal) x.answer ∙ ap (λ (s : SyncSaid). (sync_words s (writer_words (sync_writer n m pages cs start (writer_of w)))).refusal) e in
           absurd (no_change k (refused_at_lem n m pages cs start j k e).number (sym z ∙ ok))
 
-  pub exported_sync : SyncPromise (sync_start n w from) m pages cs answered after
+  pub exported_sync : SyncPromise (sync_start n from) m pages cs (writer_of w) answered writer_left after
   exported_sync =
       record {
         says = sym done_said;
@@ -79,7 +85,7 @@ module _ (n : ℕ) (m : Mem) (pages : List ℕ) (cs : List Change) (from : LogSt
         at = end_of (log_start_of from) (entries_of (start_mem m (log_start_of from)) pages cs 0 (start_state n m (log_start_of from)));
         stop = given tt;
       }
-  exported_reads_back = sync_reads_back (sync_start n w from) m pages cs answered after exported_sync r.occupied r.length refl
+  exported_reads_back = sync_reads_back (sync_start n from) m pages cs (writer_of w) answered writer_left after exported_sync r.occupied r.length refl
 
   pub exported_replays : (rule : AfterEnd) (want : Expected) → Own (log_start_of from) want → (table : List ℕ) → image_fits n (length table) ≡ true → replay_answer rule n table (take r.length after.log) want (hashes_of cs) ≡ given applied
-  exported_replays = sync_replays (sync_start n w from) m pages cs answered after exported_sync r.occupied r.length refl
+  exported_replays = sync_replays (sync_start n from) m pages cs (writer_of w) answered writer_left after exported_sync r.occupied r.length refl

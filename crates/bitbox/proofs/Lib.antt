@@ -1,4 +1,3 @@
 pub mod Examples
 pub mod Exported
 pub mod OneAnswer
-mod WordLaws

@@ -163,8 +163,8 @@ step_words (given p) s = record { refusal = 0; bucket = p.0; page = p.1; state =
 step_words (refused k) s = record { refusal = k; bucket = 0; page = 0; state = s }
 
 -- what a sync begins with
-abbrev pub sync_start : ℕ → WriterState → LogStart → SyncStart
-sync_start n w start = record { n = n; log_start = log_start_of start; writer = writer_of w }
+abbrev pub sync_start : ℕ → LogStart → SyncStart
+sync_start n start = record { n = n; log_start = log_start_of start }
 
 -- a sync: full buckets and the log's length; a refusal; or a refusal at a change
 abbrev pub synced : ℕ → ℕ → ℕ → ℕ → ℕ → WriterState → SyncAnswer

@@ -6,17 +6,16 @@
 
 ghost use Rattle.std.specs.Prelude.{◌≡◌, not, ◌/◌, eqb};
 ghost use Rattle.answers.specs.Refusals.{number_of};
-ghost use Rattle.answers.specs.Answers.{given, outcome_said, number_said, truth_said};
+ghost use Rattle.answers.specs.Answers.{given, answer_of};
 ghost use Rattle.ht_file.specs.Places.{tag_pages, image_length, if_count, if_tags, page_of};
 ghost use Rattle.meta_map.specs.Tags.{empty, tombstone, full, kind_of, is_kind, full_tag, count_of as full_count, padding_empty, write_answer, tag_written};
 ghost use Rattle.page_diff.specs.Diff.{marked, count_of, set_answer, set_words, ask_answer, cleared_words, joined, bytes_of_words, read_answer, read_words};
 ghost use Rattle.page_diff.specs.Pack.{pack_answer, packed_of, unpack_answer, unpacked_page, pack_into_answer, packed_into};
-ghost use Rattle.probe.specs.Path.{probe_answer, lookup_answer, hit_limit, allocate_answer, allocated_tags, probed_said, found_said, allocated_said};
+ghost use Rattle.probe.specs.Path.{probe_answer, lookup_answer, hit_limit, allocate_answer, allocated_tags, probed_said, found_said};
 ghost use Rattle.wal.specs.Reader.{edition_at, start_of, seed_of, next_by};
 ghost use Rattle.wal.specs.declared.AfterEnd.TheVariants.{Zeros, Tolerant};
 ghost use Rattle.wal.specs.Writer.{begin_answer, begin_writer, begin_log, clear_answer, update_answer, finish_answer, finish_writer, finish_log};
 ghost use Rattle.wal_read.specs.Head.{head_of, head_said};
-ghost use Rattle.wal_read.specs.Entry.{what_said};
 ghost use Rattle.wal_read.specs.Set.{first_at};
 ghost use Rattle.wal_write.specs.Calls.{clear_writer, clear_log, update_writer, update_log};
 ghost use Rattle.sync.specs.Change.{mem_of, taken_said};
@@ -25,14 +24,15 @@ ghost use Rattle.recover.specs.Replay.{replay_answer, replay_image, step_answer,
 ghost use Rattle.rehash.specs.Marker.{write_answer as write_marker_answer, written_marker, read_answer as read_marker_answer, marker_said};
 ghost use Rattle.rehash.specs.Pending.{pending_answer, decision_said};
 ghost use Rattle.rehash.specs.Growth.{growth_answer, growth_image, grown_said};
-ghost use Rattle.validate.specs.Audit.{audit_answer, audited_said};
+ghost use Rattle.validate.specs.Audit.{audit_answer};
 ghost use Rattle.bitbox.specs.InnerWords.{Worded};
 ghost use Rattle.numbers.specs.Numbers.{refusal_of, edition_of, edition_number};
-ghost use Rattle.bitbox.specs.Words.{words, outcome_words, number_words, truth_words, probe_words, lookup_words, entry_refusal, entry_kind, entry_bucket, Read, head_words, log_start_of, expected, writer_of, writer_words, written_words, finished_words, state_of, state_words, step_words, sync_start, sync_words, StepExport, SyncExport, replay_words, went_words, marker_words, left_words, growth_words, audit_words, pair};
+ghost use Rattle.bitbox.specs.Words.{words, outcome_words, number_words, truth_words, probe_words, lookup_words, Read, head_words, log_start_of, expected, writer_of, writer_words, written_words, finished_words, state_of, state_words, step_words, sync_words, StepExport, SyncExport, replay_words, went_words, marker_words, left_words, growth_words, audit_words, pair};
 
-use answers::{Number, Outcome, Refusal, Truth};
+use answers::Refusal;
 use page_diff::{Diff, Packed};
-use sync::Change;
+use recover::Expected;
+use sync::{Change, SyncRefusal, SyncStart, SyncState};
 use wal::{AfterEnd, Start, Writer};
 
 // ---- answers
@@ -203,7 +203,7 @@ pub struct Audited {
     pub rate: f64,
 }
 
-// ---- from the proved crates' answers to these
+// ---- from the proved crates' answers to these, and back
 
 // A refusal, which has no value.
 fn refused(why: Refusal) -> Answer
@@ -225,190 +225,221 @@ fn value(x: u64) -> Answer
     }
 }
 
-fn of_outcome(o: Outcome) -> Answer
-    ensures { result ≡ outcome_words (outcome_said o) }
-{
-    match o {
-        Outcome::Done => value(0),
-        Outcome::Refused(why) => refused(why),
+impl From<Result<(), Refusal>> for Answer {
+    ghost from_gives = { λ r a. a ≡ outcome_words (answer_of r) };
+
+    fn from(r: Result<(), Refusal>) -> Answer {
+        match r {
+            Ok(()) => value(0),
+            Err(why) => refused(why),
+        }
     }
 }
 
-fn of_number(x: Number) -> Answer
-    ensures { result ≡ number_words (number_said x) }
-{
-    match x {
-        Number::Is(v) => value(v),
-        Number::Refused(why) => refused(why),
+impl From<Result<u64, Refusal>> for Answer {
+    ghost from_gives = { λ r a. a ≡ number_words (answer_of r) };
+
+    fn from(r: Result<u64, Refusal>) -> Answer {
+        match r {
+            Ok(x) => value(x),
+            Err(why) => refused(why),
+        }
     }
 }
 
-fn of_truth(t: Truth) -> Answer
-    ensures { result ≡ truth_words (truth_said t) }
-{
-    match t {
-        Truth::Holds => value(1),
-        Truth::Fails => value(0),
-        Truth::Refused(why) => refused(why),
+impl From<Result<bool, Refusal>> for Answer {
+    ghost from_gives = { λ r a. a ≡ truth_words (answer_of r) };
+
+    fn from(r: Result<bool, Refusal>) -> Answer {
+        match r {
+            Ok(true) => value(1),
+            Ok(false) => value(0),
+            Err(why) => refused(why),
+        }
     }
 }
 
-fn of_probed(p: probe::Probed) -> Probed
-    ensures { result ≡ probe_words (probed_said p) }
-{
-    match p {
-        probe::Probed::Empty { bucket, visit } => Probed {
-            refusal: 0,
-            kind: 0,
-            bucket,
-            visit,
-        },
-        probe::Probed::Tombstone { bucket, visit } => Probed {
-            refusal: 0,
-            kind: 1,
-            bucket,
-            visit,
-        },
-        probe::Probed::PossibleHit { bucket, visit } => Probed {
-            refusal: 0,
-            kind: 2,
-            bucket,
-            visit,
-        },
-        probe::Probed::Closed => Probed {
-            refusal: 0,
-            kind: 3,
-            bucket: 0,
-            visit: 0,
-        },
-        probe::Probed::Refused(why) => Probed {
-            refusal: numbers::refusal_number(why),
-            kind: 0,
-            bucket: 0,
-            visit: 0,
-        },
+impl From<Result<probe::Probed, Refusal>> for Probed {
+    ghost from_gives = { λ r p. p ≡ probe_words (probed_said r) };
+
+    fn from(r: Result<probe::Probed, Refusal>) -> Probed {
+        match r {
+            Ok(probe::Probed::Empty { bucket, visit }) => Probed {
+                refusal: 0,
+                kind: 0,
+                bucket,
+                visit,
+            },
+            Ok(probe::Probed::Tombstone { bucket, visit }) => Probed {
+                refusal: 0,
+                kind: 1,
+                bucket,
+                visit,
+            },
+            Ok(probe::Probed::PossibleHit { bucket, visit }) => Probed {
+                refusal: 0,
+                kind: 2,
+                bucket,
+                visit,
+            },
+            Ok(probe::Probed::Closed) => Probed {
+                refusal: 0,
+                kind: 3,
+                bucket: 0,
+                visit: 0,
+            },
+            Err(why) => Probed {
+                refusal: numbers::refusal_number(why),
+                kind: 0,
+                bucket: 0,
+                visit: 0,
+            },
+        }
     }
 }
 
-fn of_found(f: probe::Found) -> Found
-    ensures { result ≡ lookup_words (found_said f) }
-{
-    match f {
-        probe::Found::At(bucket) => Found {
-            refusal: 0,
-            kind: 0,
-            bucket,
-        },
-        probe::Found::Absent => Found {
-            refusal: 0,
-            kind: 1,
-            bucket: 0,
-        },
-        probe::Found::Closed => Found {
-            refusal: 0,
-            kind: 2,
-            bucket: 0,
-        },
-        probe::Found::Refused(why) => Found {
-            refusal: numbers::refusal_number(why),
-            kind: 0,
-            bucket: 0,
-        },
+impl From<Result<probe::Found, Refusal>> for Found {
+    ghost from_gives = { λ r f. f ≡ lookup_words (found_said r) };
+
+    fn from(r: Result<probe::Found, Refusal>) -> Found {
+        match r {
+            Ok(probe::Found::At(bucket)) => Found {
+                refusal: 0,
+                kind: 0,
+                bucket,
+            },
+            Ok(probe::Found::Absent) => Found {
+                refusal: 0,
+                kind: 1,
+                bucket: 0,
+            },
+            Ok(probe::Found::Closed) => Found {
+                refusal: 0,
+                kind: 2,
+                bucket: 0,
+            },
+            Err(why) => Found {
+                refusal: numbers::refusal_number(why),
+                kind: 0,
+                bucket: 0,
+            },
+        }
     }
 }
 
-fn of_allocated(a: probe::Allocated) -> Answer
-    ensures { result ≡ number_words (allocated_said a) }
-{
-    match a {
-        probe::Allocated::At(bucket) => value(bucket),
-        probe::Allocated::Refused(why) => refused(why),
+impl From<LogStart> for Start {
+    ghost from_gives = { λ s t. t ≡ log_start_of s };
+
+    fn from(s: LogStart) -> Start {
+        let seed = s.seed;
+        Start {
+            sync: s.sync,
+            edition: numbers::edition_of(s.edition),
+            seed,
+        }
     }
 }
 
-fn log_start_of(s: LogStart) -> Start
-    ensures { result ≡ log_start_of s }
-{
-    let seed = s.seed;
-    Start {
-        sync: s.sync,
-        edition: numbers::edition_of(s.edition),
-        seed,
+impl From<WriterState> for Writer {
+    ghost from_gives = { λ s w. w ≡ writer_of s };
+
+    fn from(s: WriterState) -> Writer {
+        numbers::writer_from(s.kind, s.at)
     }
 }
 
-fn writer_of(w: WriterState) -> Writer
-    ensures { result ≡ writer_of w }
-{
-    numbers::writer_from(w.kind, w.at)
-}
+impl From<Writer> for WriterState {
+    ghost from_gives = { λ w s. s ≡ writer_words w };
 
-fn of_writer(w: Writer) -> WriterState
-    ensures { result ≡ writer_words w }
-{
-    WriterState {
-        kind: numbers::writer_kind(w),
-        at: numbers::writer_at(w),
+    fn from(w: Writer) -> WriterState {
+        WriterState {
+            kind: numbers::writer_kind(w),
+            at: numbers::writer_at(w),
+        }
     }
 }
 
-fn of_written(w: wal_write::Written) -> Written
-    ensures { result ≡ written_words (outcome_said w.outcome) w.writer }
+// What a writer's call comes to, beside the writer after it.
+fn of_written(r: Result<(), Refusal>, w: Writer) -> Written
+    ensures { result ≡ written_words (answer_of r) w }
 {
-    let outcome = w.outcome;
-    let writer = w.writer;
     Written {
-        refusal: numbers::refusal_of(outcome),
+        refusal: numbers::refusal_of(&r),
         length: 0,
-        writer: of_writer(writer),
+        writer: w.into(),
     }
 }
 
-fn of_finished(f: wal_write::FinishedAnswer) -> Written
-    ensures { result ≡ finished_words (number_said f.answer) f.writer }
+// The same of the call that answers a log's length.
+fn of_finished(r: Result<u64, Refusal>, w: Writer) -> Written
+    ensures { result ≡ finished_words (answer_of r) w }
 {
-    let answer = f.answer;
-    let writer = f.writer;
-    let a = of_number(answer);
     Written {
-        refusal: a.refusal,
-        length: a.value,
-        writer: of_writer(writer),
+        refusal: numbers::refusal_of(&r),
+        length: r.unwrap_or(0),
+        writer: w.into(),
     }
 }
 
-fn of_taken(t: sync::Taken, st: StepState) -> StepAnswer
-    ensures { result ≡ step_words (taken_said t) st }
+impl From<StepState> for SyncState {
+    ghost from_gives = { λ s t. t ≡ state_of s };
+
+    fn from(s: StepState) -> SyncState {
+        SyncState {
+            n: s.n as usize,
+            limit: probe::hit_limit(),
+            writer: s.writer.into(),
+            occupied: s.occupied,
+        }
+    }
+}
+
+impl From<SyncState> for StepState {
+    ghost from_gives = { λ s t. t ≡ state_words s };
+
+    fn from(s: SyncState) -> StepState {
+        StepState {
+            n: s.n as u64,
+            writer: s.writer.into(),
+            occupied: s.occupied,
+        }
+    }
+}
+
+// What a step of a sync comes to, beside the state after it.
+fn of_taken(r: Result<sync::Taken, Refusal>, state: StepState) -> StepAnswer
+    ensures { result ≡ step_words (taken_said r) state }
 {
-    match t {
-        sync::Taken::At { bucket, page } => StepAnswer {
+    match r {
+        Ok(t) => StepAnswer {
             refusal: 0,
-            bucket,
-            page,
-            state: st,
+            bucket: t.bucket,
+            page: t.page,
+            state,
         },
-        sync::Taken::Refused(why) => StepAnswer {
+        Err(why) => StepAnswer {
             refusal: numbers::refusal_number(why),
             bucket: 0,
             page: 0,
-            state: st,
+            state,
         },
     }
 }
 
-fn of_synced(s: sync::Synced, writer: WriterState) -> SyncAnswer
-    ensures { result ≡ sync_words (synced_said s) writer }
+// What a sync comes to, beside the writer after it.
+fn of_synced(r: Result<sync::Synced, SyncRefusal>, writer: WriterState) -> SyncAnswer
+    ensures { result ≡ sync_words (synced_said r) writer }
 {
-    match s {
-        sync::Synced::Done { occupied, length } => SyncAnswer {
+    match r {
+        Ok(s) => SyncAnswer {
             refusal: 0,
             at_change: 0,
             change: 0,
-            occupied,
-            length,
+            occupied: s.occupied,
+            length: s.length,
             writer,
         },
-        sync::Synced::Refused(why) => SyncAnswer {
+        Err(SyncRefusal::Refused(why)) => SyncAnswer {
             refusal: numbers::refusal_number(why),
             at_change: 0,
             change: 0,
@@ -416,7 +447,7 @@ fn of_synced(s: sync::Synced, writer: WriterState) -> SyncAnswer
             length: 0,
             writer,
         },
-        sync::Synced::RefusedAt(j, why) => SyncAnswer {
+        Err(SyncRefusal::RefusedAt(j, why)) => SyncAnswer {
             refusal: numbers::refusal_number(why),
             at_change: 1,
             change: j as u64,
@@ -427,45 +458,40 @@ fn of_synced(s: sync::Synced, writer: WriterState) -> SyncAnswer
     }
 }
 
-fn of_sync(a: sync::SyncAnswer) -> SyncAnswer
-    ensures { result ≡ sync_words (synced_said a.synced) (writer_words a.writer) }
-{
-    let said = a.synced;
-    let writer = a.writer;
-    of_synced(said, of_writer(writer))
-}
+impl From<Result<recover::Recovered, Refusal>> for Answer {
+    ghost from_gives = { λ r a. a ≡ replay_words (recovered_said r) };
 
-fn of_recovered(d: recover::Recovered) -> Answer
-    ensures { result ≡ replay_words (recovered_said d) }
-{
-    match d {
-        recover::Recovered::Nothing => value(0),
-        recover::Recovered::Stale => value(1),
-        recover::Recovered::Applied => value(2),
-        recover::Recovered::Refused(why) => refused(why),
+    fn from(r: Result<recover::Recovered, Refusal>) -> Answer {
+        match r {
+            Ok(recover::Recovered::Nothing) => value(0),
+            Ok(recover::Recovered::Stale) => value(1),
+            Ok(recover::Recovered::Applied) => value(2),
+            Err(why) => refused(why),
+        }
     }
 }
 
-fn of_stepped(s: recover::Stepped, at: usize) -> Stepped
-    ensures { result ≡ went_words (stepped_said s) at }
+// What a step of replay at a position comes to.
+fn of_stepped(r: Result<recover::Stepped, Refusal>, at: usize) -> Stepped
+    ensures { result ≡ went_words (stepped_said r) at }
 {
-    match s {
-        recover::Stepped::End => Stepped {
+    match r {
+        Ok(recover::Stepped::End) => Stepped {
             refusal: 0,
             kind: 0,
             next: at as u64,
         },
-        recover::Stepped::Cleared(next) => Stepped {
+        Ok(recover::Stepped::Cleared(next)) => Stepped {
             refusal: 0,
             kind: 1,
             next: next as u64,
         },
-        recover::Stepped::Updated(next) => Stepped {
+        Ok(recover::Stepped::Updated(next)) => Stepped {
             refusal: 0,
             kind: 2,
             next: next as u64,
         },
-        recover::Stepped::Refused(why) => Stepped {
+        Err(why) => Stepped {
             refusal: numbers::refusal_number(why),
             kind: 0,
             next: at as u64,
@@ -473,52 +499,61 @@ fn of_stepped(s: recover::Stepped, at: usize) -> Stepped
     }
 }
 
-fn of_marker(m: rehash::MarkerRead) -> Marker
-    ensures { result ≡ marker_words (marker_said m) }
-{
-    match m {
-        rehash::MarkerRead::Is { old, new } => Marker {
-            refusal: 0,
-            old: old as u64,
-            new: new as u64,
-        },
-        rehash::MarkerRead::Refused(why) => Marker {
-            refusal: numbers::refusal_number(why),
-            old: 0,
-            new: 0,
-        },
+impl From<Result<rehash::Marker, Refusal>> for Marker {
+    ghost from_gives = { λ r m. m ≡ marker_words (marker_said r) };
+
+    fn from(r: Result<rehash::Marker, Refusal>) -> Marker {
+        match r {
+            Ok(m) => Marker {
+                refusal: 0,
+                old: m.old as u64,
+                new: m.new as u64,
+            },
+            Err(why) => Marker {
+                refusal: numbers::refusal_number(why),
+                old: 0,
+                new: 0,
+            },
+        }
     }
 }
 
-fn of_decision(d: rehash::Decision) -> Answer
-    ensures { result ≡ left_words (decision_said d) }
-{
-    match d {
-        rehash::Decision::Tidy => value(0),
-        rehash::Decision::UpdateMetaThenTidy => value(1),
-        rehash::Decision::Refused(why) => refused(why),
+impl From<Result<rehash::Decision, Refusal>> for Answer {
+    ghost from_gives = { λ r a. a ≡ left_words (decision_said r) };
+
+    fn from(r: Result<rehash::Decision, Refusal>) -> Answer {
+        match r {
+            Ok(rehash::Decision::Tidy) => value(0),
+            Ok(rehash::Decision::UpdateMetaThenTidy) => value(1),
+            Err(why) => refused(why),
+        }
     }
 }
 
-fn of_grown(g: rehash::Grown) -> Answer
-    ensures { result ≡ growth_words (grown_said g) }
-{
-    match g {
-        rehash::Grown::NothingToDo => value(0),
-        rehash::Grown::Done => value(1),
-        rehash::Grown::Refused(why) => refused(why),
+impl From<Result<rehash::Grown, Refusal>> for Answer {
+    ghost from_gives = { λ r a. a ≡ growth_words (grown_said r) };
+
+    fn from(r: Result<rehash::Grown, Refusal>) -> Answer {
+        match r {
+            Ok(rehash::Grown::NothingToDo) => value(0),
+            Ok(rehash::Grown::Done) => value(1),
+            Err(why) => refused(why),
+        }
     }
 }
 
-fn of_audited(a: validate::Audited) -> Audited
-    ensures { result ≡ audit_words (audited_said a) }
-{
-    let v = numbers::audit_values(a);
-    Audited {
-        refusal: numbers::audit_refusal(a),
-        capacity: v.capacity,
-        occupied: v.occupied,
-        rate: v.rate,
+impl From<Result<validate::Audit, Refusal>> for Audited {
+    ghost from_gives = { λ r a. a ≡ audit_words (answer_of r) };
+
+    fn from(r: Result<validate::Audit, Refusal>) -> Audited {
+        let refusal = numbers::refusal_of(&r);
+        let v = numbers::audit_values(r);
+        Audited {
+            refusal,
+            capacity: v.capacity,
+            occupied: v.occupied,
+            rate: v.rate,
+        }
     }
 }
 
@@ -538,11 +573,9 @@ pub extern "C" fn bitbox_diff_read(bytes: &[u8; 16]) -> DiffAnswer
     ensures { (result.refusal ≡ refusal_of (read_answer bytes.now)) × (result.diff.words ≡ read_words bytes.now) }
 {
     let read = page_diff::from_bytes(*bytes);
-    let outcome = read.outcome;
-    let diff = read.diff;
     DiffAnswer {
-        refusal: numbers::refusal_of(outcome),
-        diff,
+        refusal: numbers::refusal_of(&read),
+        diff: read.unwrap_or(diff(0, 0)),
     }
 }
 
@@ -559,12 +592,11 @@ pub extern "C" fn bitbox_diff_bytes(lo: u64, hi: u64, bytes: &mut [u8; 16])
 pub extern "C" fn bitbox_diff_set(lo: u64, hi: u64, slot: usize) -> DiffAnswer
     ensures { (result.refusal ≡ refusal_of (set_answer slot)) × (result.diff.words ≡ set_words (pair lo hi) slot) }
 {
-    let set = page_diff::set_changed(diff(lo, hi), slot);
-    let outcome = set.outcome;
-    let diff = set.diff;
+    let lent = diff(lo, hi);
+    let set = page_diff::set_changed(lent, slot);
     DiffAnswer {
-        refusal: numbers::refusal_of(outcome),
-        diff,
+        refusal: numbers::refusal_of(&set),
+        diff: set.unwrap_or(lent),
     }
 }
 
@@ -573,7 +605,7 @@ pub extern "C" fn bitbox_diff_set(lo: u64, hi: u64, slot: usize) -> DiffAnswer
 pub extern "C" fn bitbox_diff_ask(lo: u64, hi: u64, slot: usize) -> Answer
     ensures { result ≡ truth_words (ask_answer (pair lo hi) slot) }
 {
-    of_truth(page_diff::changed(diff(lo, hi), slot))
+    page_diff::changed(diff(lo, hi), slot).into()
 }
 
 // Marks the page as cleared.
@@ -609,16 +641,17 @@ pub extern "C" fn bitbox_diff_join(lo: u64, hi: u64, lo2: u64, hi2: u64) -> Diff
 }
 
 // The nodes of a page's marked slots, by value: 2, 4.
+#[tactic(auto, using(page_diff::proofs::PackLaws::packed_refused))]
 #[unsafe(no_mangle)]
 pub extern "C" fn bitbox_pack(lo: u64, hi: u64, page: &[u8]) -> PackAnswer
     ensures { (result.refusal ≡ refusal_of (pack_answer (pair lo hi) page.now)) × (result.packed ≡ packed_of (pair lo hi) page.now) }
 {
-    let p = page_diff::pack_changed_nodes(diff(lo, hi), page);
-    let outcome = p.outcome;
-    let packed = p.packed;
-    PackAnswer {
-        refusal: numbers::refusal_of(outcome),
-        packed,
+    match page_diff::pack_changed_nodes(diff(lo, hi), page) {
+        Ok(packed) => PackAnswer { refusal: 0, packed },
+        Err(why) => PackAnswer {
+            refusal: numbers::refusal_number(why),
+            packed: page_diff::pack_up([[0; 32]; 126], 0),
+        },
     }
 }
 
@@ -627,7 +660,7 @@ pub extern "C" fn bitbox_pack(lo: u64, hi: u64, page: &[u8]) -> PackAnswer
 pub extern "C" fn bitbox_pack_into(lo: u64, hi: u64, page: &[u8], nodes: &mut [u8]) -> Answer
     ensures { (result ≡ number_words (pack_into_answer (pair lo hi) page.now nodes.old)) × (nodes.new ≡ packed_into (pair lo hi) page.now nodes.old) }
 {
-    of_number(page_diff::pack_into(nodes, diff(lo, hi), page))
+    page_diff::pack_into(nodes, diff(lo, hi), page).into()
 }
 
 // Puts packed nodes back at the marked slots of a page: 2, 4, 2.
@@ -641,7 +674,7 @@ pub extern "C" fn bitbox_unpack(
 ) -> Answer
     ensures { (result ≡ outcome_words (unpack_answer (pair lo hi) count page.old)) × (page.new ≡ unpacked_page (pair lo hi) nodes.now count page.old) }
 {
-    of_outcome(page_diff::unpack_lent_nodes(diff(lo, hi), nodes, count, page))
+    page_diff::unpack_lent_nodes(diff(lo, hi), nodes, count, page).into()
 }
 
 // ---- tags and places
@@ -691,7 +724,7 @@ pub extern "C" fn bitbox_is_full(tag: u8) -> bool
 pub extern "C" fn bitbox_set_full(tags: &mut [u8], n: usize, bucket: u64, hash: u64) -> Answer
     ensures { (result ≡ outcome_words (write_answer tags.old n bucket)) × (tags.new ≡ tag_written tags.old n bucket (full_tag hash)) }
 {
-    of_outcome(meta_map::set_full(tags, n, bucket, hash))
+    meta_map::set_full(tags, n, bucket, hash).into()
 }
 
 // Writes the tag of a bucket whose page is cleared: 1, 9.
@@ -699,7 +732,7 @@ pub extern "C" fn bitbox_set_full(tags: &mut [u8], n: usize, bucket: u64, hash: 
 pub extern "C" fn bitbox_set_tombstone(tags: &mut [u8], n: usize, bucket: u64) -> Answer
     ensures { (result ≡ outcome_words (write_answer tags.old n bucket)) × (tags.new ≡ tag_written tags.old n bucket 0x7F) }
 {
-    of_outcome(meta_map::set_tombstone(tags, n, bucket))
+    meta_map::set_tombstone(tags, n, bucket).into()
 }
 
 // How many of the n tags are full: 1.
@@ -707,7 +740,7 @@ pub extern "C" fn bitbox_set_tombstone(tags: &mut [u8], n: usize, bucket: u64) -
 pub extern "C" fn bitbox_full_count(tags: &[u8], n: usize) -> Answer
     ensures { result ≡ number_words (if_tags tags.now n (given (full_count full tags.now n))) }
 {
-    of_number(meta_map::full_count(tags, n))
+    meta_map::full_count(tags, n).into()
 }
 
 // Whether all bytes after the n tags are zero: 1.
@@ -715,7 +748,7 @@ pub extern "C" fn bitbox_full_count(tags: &[u8], n: usize) -> Answer
 pub extern "C" fn bitbox_padding_is_empty(tags: &[u8], n: usize) -> Answer
     ensures { result ≡ truth_words (if_tags tags.now n (given (padding_empty tags.now n))) }
 {
-    of_truth(meta_map::padding_is_empty(tags, n))
+    meta_map::padding_is_empty(tags, n).into()
 }
 
 // The tag page that a bucket's tag stands in.
@@ -731,7 +764,7 @@ pub extern "C" fn bitbox_tag_page(bucket: u64) -> u64
 pub extern "C" fn bitbox_tag_pages(n: usize) -> Answer
     ensures { result ≡ number_words (if_count n (given (tag_pages n))) }
 {
-    of_number(ht_file::num_meta_byte_pages(n))
+    ht_file::num_meta_byte_pages(n).into()
 }
 
 // How long a table's image is: 1.
@@ -739,7 +772,7 @@ pub extern "C" fn bitbox_tag_pages(n: usize) -> Answer
 pub extern "C" fn bitbox_table_length(n: usize) -> Answer
     ensures { result ≡ number_words (if_count n (given (image_length n))) }
 {
-    of_number(ht_file::expected_file_len(n))
+    ht_file::expected_file_len(n).into()
 }
 
 // The page number of a bucket: 1, 9.
@@ -747,7 +780,7 @@ pub extern "C" fn bitbox_table_length(n: usize) -> Answer
 pub extern "C" fn bitbox_page_number(n: usize, bucket: u64) -> Answer
     ensures { result ≡ number_words (page_of n bucket) }
 {
-    of_number(ht_file::data_page_index(n, bucket))
+    ht_file::data_page_index(n, bucket).into()
 }
 
 // ---- the path of a hash
@@ -757,7 +790,7 @@ pub extern "C" fn bitbox_page_number(n: usize, bucket: u64) -> Answer
 pub extern "C" fn bitbox_probe(tags: &[u8], n: usize, hash: u64, k: u64) -> Probed
     ensures { result ≡ probe_words (probe_answer tags.now n hash k) }
 {
-    of_probed(probe::probe_from(tags, n, hash, k))
+    probe::probe_from(tags, n, hash, k).into()
 }
 
 // The bucket whose page ends in the id: 1.
@@ -765,7 +798,7 @@ pub extern "C" fn bitbox_probe(tags: &[u8], n: usize, hash: u64, k: u64) -> Prob
 pub extern "C" fn bitbox_lookup(image: &[u8], n: usize, hash: u64, id: &[u8; 32]) -> Found
     ensures { result ≡ lookup_words (lookup_answer image.now n hash id.now) }
 {
-    of_found(probe::lookup(image, n, hash, *id))
+    probe::lookup(image, n, hash, *id).into()
 }
 
 // Gives a bucket to a page with this hash and writes its tag: 1, 10 or 11.
@@ -773,7 +806,7 @@ pub extern "C" fn bitbox_lookup(image: &[u8], n: usize, hash: u64, id: &[u8; 32]
 pub extern "C" fn bitbox_allocate(tags: &mut [u8], n: usize, hash: u64) -> Answer
     ensures { (result ≡ number_words (allocate_answer hit_limit tags.old n hash)) × (tags.new ≡ allocated_tags hit_limit tags.old n hash) }
 {
-    of_allocated(probe::allocate_bucket(tags, n, hash, probe::hit_limit()))
+    probe::allocate_bucket(tags, n, hash, probe::hit_limit()).into()
 }
 
 // ---- the log
@@ -807,27 +840,32 @@ pub extern "C" fn bitbox_reader_seed(log: &[u8], seed: &mut [u8; 16])
 pub extern "C" fn bitbox_reader_set(log: &[u8]) -> Answer
     ensures { result ≡ number_words (start_of log.now) }
 {
-    of_number(wal_read::set(log))
+    wal_read::set(log).into()
 }
 
-// An entry in words.
-fn of_entry(e: wal_read::WalEntry) -> Entry
-    ensures { Worded e result }
-{
-    let what = e.what;
-    let id = e.id;
-    let diff = e.diff;
-    let packed = e.packed;
-    let elided = e.elided;
-    Entry {
-        refusal: entry_refusal(what),
-        kind: entry_kind(what),
-        bucket: entry_bucket(what),
-        next: e.next as u64,
-        id,
-        diff,
-        packed,
-        elided,
+impl From<wal_read::WalEntry> for Entry {
+    ghost from_gives = { λ e w. Worded e w };
+
+    fn from(e: wal_read::WalEntry) -> Entry {
+        let (refusal, kind, bucket) = match e.what {
+            Ok(wal_read::What::Clear(b)) => (0, 1, b),
+            Ok(wal_read::What::Update(b)) => (0, 2, b),
+            Ok(wal_read::What::End) => (0, 0, 0),
+            Err(why) => (numbers::refusal_number(why), 0, 0),
+        };
+        let id = e.id;
+        let packed = e.packed;
+        let elided = e.elided;
+        Entry {
+            refusal,
+            kind,
+            bucket,
+            next: e.next as u64,
+            id,
+            diff: e.diff,
+            packed,
+            elided,
+        }
     }
 }
 
@@ -836,8 +874,7 @@ fn of_entry(e: wal_read::WalEntry) -> Entry
 pub extern "C" fn bitbox_reader_next(log: &[u8], at: usize, edition: u32) -> Entry
     ensures { Read (next_by Zeros (edition_of edition) log.now at) at result }
 {
-    let ed = numbers::edition_of(edition);
-    of_entry(wal_read::entry_at(log, at, ed))
+    wal_read::entry_at(log, at, numbers::edition_of(edition)).into()
 }
 
 // The same, whatever follows end: 6, 8, 4. The end is told here, and every other entry is that of `bitbox_reader_next`,
@@ -846,44 +883,45 @@ pub extern "C" fn bitbox_reader_next(log: &[u8], at: usize, edition: u32) -> Ent
 pub extern "C" fn bitbox_reader_next_tolerant(log: &[u8], at: usize, edition: u32) -> Entry
     ensures { Read (next_by Tolerant (edition_of edition) log.now at) at result }
 {
-    let ed = numbers::edition_of(edition);
-    let head = wal_read::head_at_tolerant(log, at, ed);
-    if let wal_read::Head::End = head {
-        return of_entry(wal_read::end_at(at));
+    match wal_read::head_at_tolerant(log, at, numbers::edition_of(edition)) {
+        Ok(wal_read::Head::End) => wal_read::end_at(at).into(),
+        _ => bitbox_reader_next(log, at, edition),
     }
-    bitbox_reader_next(log, at, edition)
 }
 
-fn of_head(h: wal_read::Head, at: usize) -> Head
-    ensures { result ≡ head_words (head_said h) at }
+// The head of an entry at a position.
+fn of_head(r: Result<wal_read::Head, Refusal>, at: usize) -> Head
+    ensures { result ≡ head_words (head_said r) at }
 {
-    match h {
-        wal_read::Head::Clear { bucket, next } => Head {
+    match r {
+        Ok(wal_read::Head::Clear { bucket, next }) => Head {
             refusal: 0,
             kind: 1,
             bucket,
             count: 0,
             next: next as u64,
         },
-        wal_read::Head::Update {
-            bucket,
-            count,
-            next,
-        } => Head {
+        Ok(
+            wal_read::Head::Update {
+                bucket,
+                count,
+                next,
+            },
+        ) => Head {
             refusal: 0,
             kind: 2,
             bucket,
             count: count as u64,
             next: next as u64,
         },
-        wal_read::Head::End => Head {
+        Ok(wal_read::Head::End) => Head {
             refusal: 0,
             kind: 0,
             bucket: 0,
             count: 0,
             next: at as u64,
         },
-        wal_read::Head::Refused(why) => Head {
+        Err(why) => Head {
             refusal: numbers::refusal_number(why),
             kind: 0,
             bucket: 0,
@@ -897,8 +935,10 @@ fn of_head(h: wal_read::Head, at: usize) -> Head
 fn head_by(log: &[u8], at: usize, edition: u32, rule: AfterEnd) -> Head
     ensures { result ≡ head_words (head_of (next_by rule (edition_of edition) log.now at)) at }
 {
-    let ed = numbers::edition_of(edition);
-    of_head(wal_read::head_by(log, at, ed, rule), at)
+    of_head(
+        wal_read::head_by(log, at, numbers::edition_of(edition), rule),
+        at,
+    )
 }
 
 // The entry without its fields: no table is moved.
@@ -917,44 +957,14 @@ pub extern "C" fn bitbox_reader_head_tolerant(log: &[u8], at: usize, edition: u3
     head_by(log, at, edition, AfterEnd::Tolerant)
 }
 
-fn entry_refusal(w: wal_read::What) -> u64
-    ensures { result ≡ entry_refusal (what_said w) }
-{
-    if let wal_read::What::Refused(why) = w {
-        return numbers::refusal_number(why);
-    }
-    0
-}
-
-fn entry_kind(w: wal_read::What) -> u64
-    ensures { result ≡ entry_kind (what_said w) }
-{
-    match w {
-        wal_read::What::Clear(_) => 1,
-        wal_read::What::Update(_) => 2,
-        wal_read::What::End => 0,
-        wal_read::What::Refused(_) => 0,
-    }
-}
-
-fn entry_bucket(w: wal_read::What) -> u64
-    ensures { result ≡ entry_bucket (what_said w) }
-{
-    match w {
-        wal_read::What::Clear(b) => b,
-        wal_read::What::Update(b) => b,
-        wal_read::What::End => 0,
-        wal_read::What::Refused(_) => 0,
-    }
-}
-
 // Begins a log, in any state: 13.
 #[unsafe(no_mangle)]
 pub extern "C" fn bitbox_begin(log: &mut [u8], w: WriterState, start: LogStart) -> Written
     ensures { (result ≡ written_words (begin_answer log.old) (begin_writer log.old (writer_of w) (log_start_of start).edition)) × (log.new ≡ begin_log log.old (log_start_of start)) }
 {
-    let s = log_start_of(start);
-    of_written(wal_write::begin(log, writer_of(w), s))
+    let mut writer = Writer::from(w);
+    let begun = wal_write::begin(log, &mut writer, start.into());
+    of_written(begun, writer)
 }
 
 // Writes that a bucket is cleared: 12, 13.
@@ -962,7 +972,9 @@ pub extern "C" fn bitbox_begin(log: &mut [u8], w: WriterState, start: LogStart) 
 pub extern "C" fn bitbox_write_clear(log: &mut [u8], w: WriterState, bucket: u64) -> Written
     ensures { (result ≡ written_words (clear_answer log.old (writer_of w)) (clear_writer log.old (writer_of w))) × (log.new ≡ clear_log log.old (writer_of w) bucket) }
 {
-    of_written(wal_write::write_clear(log, writer_of(w), bucket))
+    let mut writer = Writer::from(w);
+    let written = wal_write::write_clear(log, &mut writer, bucket);
+    of_written(written, writer)
 }
 
 // Writes that a page is changed: 12, 2, 4, 13.
@@ -980,16 +992,18 @@ pub extern "C" fn bitbox_write_update(
 ) -> Written
     ensures { (result ≡ written_words (update_answer log.old (writer_of w) (pair lo hi) count) (update_writer log.old (writer_of w) (pair lo hi) count)) × (log.new ≡ update_log log.old (writer_of w) id.now (pair lo hi) nodes.now count elided.now bucket) }
 {
-    of_written(wal_write::write_lent_update(
+    let mut writer = Writer::from(w);
+    let written = wal_write::write_lent_update(
         log,
-        writer_of(w),
+        &mut writer,
         *id,
         diff(lo, hi),
         nodes,
         count,
         *elided,
         bucket,
-    ))
+    );
+    of_written(written, writer)
 }
 
 // Ends a log and answers its length: 12, 13.
@@ -997,7 +1011,9 @@ pub extern "C" fn bitbox_write_update(
 pub extern "C" fn bitbox_finish(log: &mut [u8], w: WriterState) -> Written
     ensures { (result ≡ finished_words (finish_answer log.old (writer_of w)) (finish_writer log.old (writer_of w))) × (log.new ≡ finish_log log.old (writer_of w)) }
 {
-    of_finished(wal_write::finish(log, writer_of(w)))
+    let mut writer = Writer::from(w);
+    let finished = wal_write::finish(log, &mut writer);
+    of_finished(finished, writer)
 }
 
 // ---- sync
@@ -1015,43 +1031,9 @@ pub extern "C" fn bitbox_sync_step(
 ) -> StepAnswer
     ensures { StepExport st (mem_of tags.old marks.old cells.old log.old) page.now c result (mem_of tags.new marks.new cells.new log.new) }
 {
-    let s = sync::step(tags, marks, cells, log, page, c, state_of(st));
-    let t = s.taken;
-    let after = s.state;
-    of_taken(t, of_state(after))
-}
-
-fn state_of(st: StepState) -> sync::SyncState
-    ensures { result ≡ state_of st }
-{
-    sync::SyncState {
-        n: st.n as usize,
-        limit: probe::hit_limit(),
-        writer: writer_of(st.writer),
-        occupied: st.occupied,
-    }
-}
-
-fn of_state(st: sync::SyncState) -> StepState
-    ensures { result ≡ state_words st }
-{
-    let w = st.writer;
-    StepState {
-        n: st.n as u64,
-        writer: of_writer(w),
-        occupied: st.occupied,
-    }
-}
-
-fn start_of(n: usize, w: WriterState, start: LogStart) -> sync::SyncStart
-    ensures { result ≡ sync_start n w start }
-{
-    let log_start = log_start_of(start);
-    sync::SyncStart {
-        n,
-        log_start,
-        writer: writer_of(w),
-    }
+    let mut state = SyncState::from(st);
+    let taken = sync::step(tags, marks, cells, log, page, c, &mut state);
+    of_taken(taken, state.into())
 }
 
 // A list of changes taken into the tags and logged: 1, 2, 13, then at a change as one step.
@@ -1069,8 +1051,13 @@ pub extern "C" fn bitbox_sync(
 ) -> SyncAnswer
     ensures { SyncExport n (mem_of tags.old marks.old cells.old log.old) pages.now changes.now start w result (mem_of tags.new marks.new cells.new log.new) }
 {
-    let begins = start_of(n, w, start);
-    of_sync(sync::sync(tags, marks, cells, log, pages, changes, begins))
+    let mut writer = Writer::from(w);
+    let begins = SyncStart {
+        n,
+        log_start: start.into(),
+    };
+    let synced = sync::sync(tags, marks, cells, log, pages, changes, begins, &mut writer);
+    of_synced(synced, writer.into())
 }
 
 // ---- replay
@@ -1087,8 +1074,11 @@ fn replay_by(
 ) -> Answer
     ensures { (result ≡ replay_words (replay_answer rule n image.old log.now (expected sync_seqn seed) hashes.now)) × (image.new ≡ replay_image rule n image.old log.now (expected sync_seqn seed) hashes.now) }
 {
-    let want = expected_of(sync_seqn, seed);
-    of_recovered(recover::recover_by(image, n, log, want, hashes, rule))
+    let want = Expected {
+        sync: sync_seqn,
+        seed,
+    };
+    recover::recover_by(image, n, log, want, hashes, rule).into()
 }
 
 // Replays a log on an image of a store, with a hash for each update: 1, 5, 7, 26, then 6, 8, 4, 9, then 27 where a byte
@@ -1120,12 +1110,6 @@ pub extern "C" fn bitbox_replay_tolerant(
     ensures { (result ≡ replay_words (replay_answer Tolerant n image.old log.now (expected sync_seqn seed.now) hashes.now)) × (image.new ≡ replay_image Tolerant n image.old log.now (expected sync_seqn seed.now) hashes.now) }
 {
     replay_by(image, n, log, sync_seqn, *seed, hashes, AfterEnd::Tolerant)
-}
-
-fn expected_of(sync: u32, seed: [u8; 16]) -> recover::Expected
-    ensures { result ≡ expected sync seed }
-{
-    recover::Expected { sync, seed }
 }
 
 // One entry of it, from a log of an edition, by what is wanted after end.
@@ -1181,12 +1165,10 @@ pub extern "C" fn bitbox_replay_step_tolerant(
 pub extern "C" fn bitbox_write_marker(old: u32, new: u32) -> MarkerBytes
     ensures { (result.refusal ≡ refusal_of (write_marker_answer old new)) × (result.bytes ≡ written_marker old new) }
 {
-    let m = rehash::write_marker(old, new);
-    let outcome = m.outcome;
-    let bytes = m.bytes;
+    let marker = rehash::write_marker(old, new);
     MarkerBytes {
-        refusal: numbers::refusal_of(outcome),
-        bytes,
+        refusal: numbers::refusal_of(&marker),
+        bytes: marker.unwrap_or([0; 16]),
     }
 }
 
@@ -1195,7 +1177,7 @@ pub extern "C" fn bitbox_write_marker(old: u32, new: u32) -> MarkerBytes
 pub extern "C" fn bitbox_read_marker(bytes: &[u8]) -> Marker
     ensures { result ≡ marker_words (read_marker_answer bytes.now) }
 {
-    of_marker(rehash::read_marker(bytes))
+    rehash::read_marker(bytes).into()
 }
 
 // What is left to do of a growth: 1, 17, 18.
@@ -1203,7 +1185,7 @@ pub extern "C" fn bitbox_read_marker(bytes: &[u8]) -> Marker
 pub extern "C" fn bitbox_pending(old: u64, new: u64, meta: u64, file_len: u64) -> Answer
     ensures { result ≡ left_words (pending_answer old new meta file_len) }
 {
-    of_decision(rehash::pending(old, new, meta, file_len))
+    rehash::pending(old, new, meta, file_len).into()
 }
 
 // Copies a table into a larger one, with a hash for each old bucket: 1, 19, 2, 10 or 11.
@@ -1217,7 +1199,7 @@ pub extern "C" fn bitbox_grow(
 ) -> Answer
     ensures { (result ≡ growth_words (growth_answer hit_limit old_image.now old_n new_image.old new_n hashes.now)) × (new_image.new ≡ growth_image hit_limit old_image.now old_n new_image.old new_n hashes.now) }
 {
-    of_grown(rehash::grow(old_image, old_n, new_image, new_n, hashes))
+    rehash::grow(old_image, old_n, new_image, new_n, hashes).into()
 }
 
 // Audits a table, with a hash for each bucket: 1, 2, 20, then 21, 22, 23 or 24.
@@ -1225,5 +1207,5 @@ pub extern "C" fn bitbox_grow(
 pub extern "C" fn bitbox_audit(image: &[u8], n: usize, hashes: &[u64]) -> Audited
     ensures { result ≡ audit_words (audit_answer image.now n hashes.now) }
 {
-    of_audited(validate::validate_hashtable(image, n, hashes))
+    validate::validate_hashtable(image, n, hashes).into()
 }
