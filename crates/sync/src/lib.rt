@@ -356,8 +356,8 @@ fn all_changes(
     ensures { WalkPromise start (mem_of tags.old marks.old cells.old log.old) pages.now changes.now result (mem_of tags.new marks.new cells.new log.new) }
 {
     let mut st = begin_sync(tags, marks, log, pages, changes.len(), start)?;
-    for j in 0..changes.len() {
-        st = change_at(tags, marks, cells, log, pages, changes[j], j, st)?;
+    for (j, c) in changes.iter().enumerate() {
+        st = change_at(tags, marks, cells, log, pages, *c, j, st)?;
     }
     Ok(st)
 }

@@ -87,6 +87,7 @@ pub fn set_cell(cells: &mut [u64], place: Where, b: u64)
 }
 
 // The full tags among the first n; none are counted where the tags are not those of n buckets.
+#[tactic(auto, using(crate::proofs::PartLaws::counted))]
 pub fn full_tags(tags: &[u8], n: usize) -> u64
     ensures { result ≡ full_tags n tags.now }
 {
