@@ -100,16 +100,16 @@ enum Planned {
 }
 
 // Where a place says that the bucket is known from.
-pub fn where_of(p: Place) -> Where
-    ensures { result ≡ where_of p }
-{
-    if p.kind == KNOWN {
-        return Where::Known(p.at);
+impl From<Place> for Where {
+    ghost from_gives = { λ p w. w ≡ where_of p };
+
+    fn from(p: Place) -> Where {
+        match p.kind {
+            KNOWN => Where::Known(p.at),
+            FRESH => Where::Fresh,
+            _ => Where::Cell(p.at as usize),
+        }
     }
-    if p.kind == FRESH {
-        return Where::Fresh;
-    }
-    Where::Cell(p.at as usize)
 }
 
 // The place of a bucket that is known.
@@ -164,7 +164,7 @@ fn plan(tags: &[u8], n: usize, cells: &[u64], c: Change) -> Result<Planned, Refu
         return Err(Refusal::DiffReserved);
     }
     let clearing = page_diff::cleared(c.diff);
-    let name = sync_parts::name_of(where_of(c.place), cells)?;
+    let name = sync_parts::name_of(c.place.into(), cells)?;
     match name {
         Some(b) => plan_named(tags, n, clearing, c.hash, b),
         None if clearing => Err(Refusal::BucketUnfit),
@@ -269,7 +269,7 @@ pub fn step(
         Outlook::Takes(b) => {
             wal_write::write_page_update(log, &mut st.writer, c.id, c.diff, page, b)?;
             sync_parts::write_tag(tags, marks, b as usize, meta_map::full_entry(c.hash));
-            sync_parts::set_cell(cells, where_of(c.place), b);
+            sync_parts::set_cell(cells, c.place.into(), b);
             st.occupied = st.occupied.saturating_add(1);
             Ok(taken_at(n, b))
         }

@@ -18,7 +18,7 @@ by_name : (c : After-name_of) (a : Answer Named) → a ≡ name_said c.name_of.r
 by_name c a e =
     let x = c.args in
     plan_by x.n x.tags.now x.cells.now x.c c.cleared-clearing.result a (sym (given_one _ (marked x.c.diff.words 126) c.in_ok-spare.ensures) ∙ c.if-spare.false) c.cleared-clearing.ensures
-    (e ∙ c.name_of.ensures ∙ ap (λ (w : Where). named_by w x.cells.now) c.where_of.ensures)
+    (e ∙ c.name_of.ensures ∙ ap (λ (w : Where). named_by w x.cells.now) c.into.ensures)
 
 pub returns-then-spare : goal.returns-then-spare
 returns-then-spare c =

@@ -178,4 +178,4 @@ returns-in_ok-write_page_update-in-Takes c =
     given_left (st l) (tags l) (marks l) (cells l) (log l) (page l) (ch l) (allocated b) (Ok t.result)
     (state_of (st l).n (st l).limit wr.new.w c.saturating_add-st.result) tg.new.tags tg.new.marks c.set_cell.new.cells wr.new.log (seen l (Ok (Takes b)) e) (ap₂ (λ (x y : ℕ). given (x, y)) t.ensures.0 t.ensures.1)
     (ap₂ (state_of (st l).n (st l).limit) (wr.ensures.1.0 ∙ page_state w (log l) ws (page l) k) (search rules)) (tg.ensures.0 ∙ ap (set (tags l) b) c.full_entry.ensures) tg.ensures.1
-    (c.set_cell.ensures ∙ ap (λ (p : Where). cells_at p b (cells l)) c.where_of.ensures) (wr.ensures.1.1 ∙ page_bytes w (log l) ws (page l) k (ch l).id b) (wide (goal.at.returns-in_ok-write_page_update-in-Takes c).Start)
+    (c.set_cell.ensures ∙ ap (λ (p : Where). cells_at p b (cells l)) c.into.ensures) (wr.ensures.1.1 ∙ page_bytes w (log l) ws (page l) k (ch l).id b) (wide (goal.at.returns-in_ok-write_page_update-in-Takes c).Start)
