@@ -58,15 +58,14 @@ pub struct WalEntry {
 pub fn edition_of(log: &[u8]) -> Edition
     ensures { result ≡ edition_at log.now }
 {
-    if 0 < log.len() {
-        if log[0] == wal::WAL_EDITION_TWO {
-            return Edition::Two;
-        }
+    match log.first() {
+        Some(&wal::WAL_EDITION_TWO) => Edition::Two,
+        _ => Edition::One,
     }
-    Edition::One
 }
 
 // The seed in the start of a log of edition two; zeros where the log is shorter than a start.
+#[tactic(auto, unfolding(wal::specs::Reader::seed_of))]
 pub fn seed_of(log: &[u8]) -> [u8; 16]
     ensures { result ≡ seed_of log.now }
 {
@@ -104,19 +103,16 @@ fn diff_at(log: &[u8], body: usize) -> Result<Diff, Refusal>
 fn tag_at(log: &[u8], at: usize, edition: Edition) -> Result<u8, Refusal>
     ensures { answer_of result ≡ tag_at edition log.now at }
 {
-    if log.len() <= at {
-        return Err(Refusal::LogCut);
+    let first = *log.get(at).ok_or(Refusal::LogCut)?;
+    match edition {
+        Edition::One => Ok(first),
+        Edition::Two => {
+            if first != wal::WAL_EDITION_TWO {
+                return Err(Refusal::TagUnknown);
+            }
+            log.get(at + 1).copied().ok_or(Refusal::LogCut)
+        }
     }
-    let Edition::Two = edition else {
-        return Ok(log[at]);
-    };
-    if log[at] != wal::WAL_EDITION_TWO {
-        return Err(Refusal::TagUnknown);
-    }
-    if log.len() - at < 2 {
-        return Err(Refusal::LogCut);
-    }
-    Ok(log[at + 1])
 }
 
 // What stands from `body` on, after the mark of a tag, without its nodes. It looks at no byte past the record.
@@ -125,35 +121,35 @@ fn head_after(log: &[u8], body: usize, tag: u8) -> Result<Head, Refusal>
     ensures { head_said result ≡ head_of (by_tag tag log.now body) }
 {
     let left = log.len() - body;
-    if tag == wal::WAL_ENTRY_TAG_END {
-        return Ok(Head::End);
-    }
-    if tag == wal::WAL_ENTRY_TAG_CLEAR {
-        if left < wal::CLEAR_BODY {
-            return Err(Refusal::LogCut);
+    match tag {
+        wal::WAL_ENTRY_TAG_END => Ok(Head::End),
+        wal::WAL_ENTRY_TAG_CLEAR => {
+            if left < wal::CLEAR_BODY {
+                return Err(Refusal::LogCut);
+            }
+            Ok(Head::Clear {
+                bucket: blocks::read_u64(log, body),
+                next: body + wal::CLEAR_BODY,
+            })
         }
-        return Ok(Head::Clear {
-            bucket: blocks::read_u64(log, body),
-            next: body + wal::CLEAR_BODY,
-        });
+        wal::WAL_ENTRY_TAG_UPDATE => {
+            if left < wal::NODES_AT {
+                return Err(Refusal::LogCut);
+            }
+            let diff = diff_at(log, body)?;
+            let count = page_diff::count(diff);
+            let size = wal::UPDATE_BODY + 32 * count;
+            if left < size {
+                return Err(Refusal::LogCut);
+            }
+            Ok(Head::Update {
+                bucket: blocks::read_u64(log, body + (size - 8)),
+                count,
+                next: body + size,
+            })
+        }
+        _ => Err(Refusal::TagUnknown),
     }
-    if tag != wal::WAL_ENTRY_TAG_UPDATE {
-        return Err(Refusal::TagUnknown);
-    }
-    if left < wal::NODES_AT {
-        return Err(Refusal::LogCut);
-    }
-    let diff = diff_at(log, body)?;
-    let count = page_diff::count(diff);
-    let size = wal::UPDATE_BODY + 32 * count;
-    if left < size {
-        return Err(Refusal::LogCut);
-    }
-    Ok(Head::Update {
-        bucket: blocks::read_u64(log, body + (size - 8)),
-        count,
-        next: body + size,
-    })
 }
 
 // The record at `at` without its nodes, whatever follows end: its mark, and what is read after it. No sum wraps on a
@@ -180,13 +176,12 @@ pub fn head_by(log: &[u8], at: usize, edition: Edition, rule: AfterEnd) -> Resul
     ensures { head_said result ≡ head_of (next_by rule edition log.now at) }
 {
     let head = head_at_tolerant(log, at, edition)?;
-    let Head::End = head else {
-        return Ok(head);
-    };
-    if wanted(log, at + wal::mark_size(edition), rule) {
-        return Ok(Head::End);
+    if let Head::End = head {
+        if !wanted(log, at + wal::mark_size(edition), rule) {
+            return Err(Refusal::AfterEndUsed);
+        }
     }
-    Err(Refusal::AfterEndUsed)
+    Ok(head)
 }
 
 // The same, with zeros wanted after end.
@@ -202,10 +197,8 @@ fn nodes_at(log: &[u8], from: usize, count: usize) -> [[u8; 32]; 126]
     ensures { result ≡ rows (nodes_from log.now from count) }
 {
     let mut nodes = [[0u8; 32]; 126];
-    let mut c = 0;
-    while c < count {
+    for c in 0..count {
         nodes[c] = blocks::block_32(log, from + 32 * c);
-        c += 1;
     }
     nodes
 }
@@ -214,17 +207,12 @@ fn nodes_at(log: &[u8], from: usize, count: usize) -> [[u8; 32]; 126]
 fn bare(what: Result<What, Refusal>, next: usize) -> WalEntry
     ensures { Bare what next result }
 {
-    let id = [0u8; 32];
-    let words = [0u64; 2];
-    let diff = Diff { words };
-    let packed = page_diff::pack_up([[0u8; 32]; 126], 0);
-    let elided = [0u8; 8];
     WalEntry {
         what,
-        id,
-        diff,
-        packed,
-        elided,
+        id: [0u8; 32],
+        diff: Diff { words: [0u64; 2] },
+        packed: page_diff::pack_up([[0u8; 32]; 126], 0),
+        elided: [0u8; 8],
         next,
     }
 }
@@ -331,10 +319,8 @@ pub fn tolerant<'a>(r: WalBlobReader<'a>) -> WalBlobReader<'a>
     ensures { result ≡ as_tolerant r.entry }
 {
     WalBlobReader {
-        log: r.log,
-        at: r.at,
-        start: r.start,
         rule: AfterEnd::Tolerant,
+        ..r
     }
 }
 

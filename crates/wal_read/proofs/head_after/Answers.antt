@@ -29,48 +29,48 @@ counts log body k ws a v e =
 
 pub returns-then-left-lt-CLEAR_BODY : goal.returns-then-left-lt-CLEAR_BODY
 returns-then-left-lt-CLEAR_BODY c =
-    let a = c.args in sym (ap (seen a.log.now a.body) c.if-tag-eq-WAL_ENTRY_TAG_CLEAR.true ∙ ap head_of (by_clear_cut a.log.now a.body (omega arith)))
+    let a = c.args in sym (ap (seen a.log.now a.body) c.in-3.is ∙ ap head_of (by_clear_cut a.log.now a.body (omega arith)))
 
-pub returns-then-tag-eq-WAL_ENTRY_TAG_CLEAR : goal.returns-then-tag-eq-WAL_ENTRY_TAG_CLEAR
-returns-then-tag-eq-WAL_ENTRY_TAG_CLEAR c =
+pub returns-else-left-lt-CLEAR_BODY : goal.returns-else-left-lt-CLEAR_BODY
+returns-else-left-lt-CLEAR_BODY c =
     let a = c.args in
     ap (λ (b : ℕ). a_clear b (a.body + 8)) c.read_u64.ensures
-    ∙ sym (ap (seen a.log.now a.body) c.if-tag-eq-WAL_ENTRY_TAG_CLEAR.true ∙ ap head_of (by_clear a.log.now a.body (omega arith)))
+    ∙ sym (ap (seen a.log.now a.body) c.in-3.is ∙ ap head_of (by_clear a.log.now a.body (omega arith)))
 
 pub returns-then-left-lt-NODES_AT : goal.returns-then-left-lt-NODES_AT
 returns-then-left-lt-NODES_AT c =
-    let a = c.args in sym (ap (seen a.log.now a.body) c.if-tag-ne-WAL_ENTRY_TAG_UPDATE.false ∙ ap head_of (by_diff_cut a.log.now a.body (omega arith)))
+    let a = c.args in sym (ap (seen a.log.now a.body) c.in-4.is ∙ ap head_of (by_diff_cut a.log.now a.body (omega arith)))
 
-pub returns-in_err-diff : goal.returns-in_err-diff
-returns-in_err-diff c =
+pub returns-in_err-diff-in-4 : goal.returns-in_err-diff-in-4
+returns-in_err-diff-in-4 c =
     let a = c.args in
-    let k : ℕ = number_of c.in_err-diff.field-0.0 in
-    let told = read_refused (block 16 a.log.now (a.body + 32)) k c.in_err-diff.ensures.answer in
+    let k : ℕ = number_of c.in_err-diff-in-4.field-0.0 in
+    let told = read_refused (block 16 a.log.now (a.body + 32)) k c.in_err-diff-in-4.ensures.answer in
     let e : a_refusal k ≡ head_of (by_tag a.tag a.log.now a.body) =
-    ap a_refusal told.1 ∙ sym (ap (seen a.log.now a.body) c.if-tag-ne-WAL_ENTRY_TAG_UPDATE.false ∙ ap head_of (by_reserved a.log.now a.body (omega arith) told.0)) in
+    ap a_refusal told.1 ∙ sym (ap (seen a.log.now a.body) c.in-4.is ∙ ap head_of (by_reserved a.log.now a.body (omega arith) told.0)) in
     search rules
 
 pub overflow_mul-size : goal.overflow_mul-size
-overflow_mul-size c = let k = counts c.args.log.now c.args.body _ _ c.in_ok-diff.ensures.answer c.in_ok-diff.ensures.value c.count-count.ensures in omega (arith, k.few)
+overflow_mul-size c = let k = counts c.args.log.now c.args.body _ _ c.in_ok-diff-in-4.ensures.answer c.in_ok-diff-in-4.ensures.value c.count-count.ensures in omega (arith, k.few)
 
 pub overflow_add-size : goal.overflow_add-size
-overflow_add-size c = let k = counts c.args.log.now c.args.body _ _ c.in_ok-diff.ensures.answer c.in_ok-diff.ensures.value c.count-count.ensures in omega (arith, k.few)
+overflow_add-size c = let k = counts c.args.log.now c.args.body _ _ c.in_ok-diff-in-4.ensures.answer c.in_ok-diff-in-4.ensures.value c.count-count.ensures in omega (arith, k.few)
 
 pub returns-then-left-size : goal.returns-then-left-size
 returns-then-left-size c =
     let a = c.args in
-    let k = counts a.log.now a.body _ _ c.in_ok-diff.ensures.answer c.in_ok-diff.ensures.value c.count-count.ensures in
+    let k = counts a.log.now a.body _ _ c.in_ok-diff-in-4.ensures.answer c.in_ok-diff-in-4.ensures.value c.count-count.ensures in
     let short : length a.log.now < a.body + update_body (count_of (diff_at a.log.now a.body)) = omega (arith, k.same) in
-    sym (ap (seen a.log.now a.body) c.if-tag-ne-WAL_ENTRY_TAG_UPDATE.false ∙ ap head_of (by_update_cut a.log.now a.body (omega arith) k.plain short))
+    sym (ap (seen a.log.now a.body) c.in-4.is ∙ ap head_of (by_update_cut a.log.now a.body (omega arith) k.plain short))
 
-pub returns : goal.returns
+pub returns-else-left-size : goal.returns-else-left-size
 unfolding update_of
-returns c =
+returns-else-left-size c =
     let a = c.args in
-    let k = counts a.log.now a.body _ _ c.in_ok-diff.ensures.answer c.in_ok-diff.ensures.value c.count-count.ensures in
+    let k = counts a.log.now a.body _ _ c.in_ok-diff-in-4.ensures.answer c.in_ok-diff-in-4.ensures.value c.count-count.ensures in
     let n : ℕ = count_of (diff_at a.log.now a.body) in
     let same : c.count-count.result ≡ n = k.same in
     let there : a.body + (64 + 32 * c.count-count.result - 8) ≡ a.body + 56 + 32 * n = omega arith in
     let whole : a.body + update_body n ≤ length a.log.now = omega arith in
-    ap₂ (λ (b m : ℕ). an_update b m (a.body + update_body m)) (c.read_u64-2.ensures ∙ ap (λ (p : ℕ). le (block 8 a.log.now p)) there) same
-    ∙ sym (ap (seen a.log.now a.body) c.if-tag-ne-WAL_ENTRY_TAG_UPDATE.false ∙ ap head_of (by_update a.log.now a.body k.plain whole))
+    ap₂ (λ (b m : ℕ). an_update b m (a.body + update_body m)) (c.read_u64-in-4.ensures ∙ ap (λ (p : ℕ). le (block 8 a.log.now p)) there) same
+    ∙ sym (ap (seen a.log.now a.body) c.in-4.is ∙ ap head_of (by_update a.log.now a.body k.plain whole))
