@@ -1,6 +1,6 @@
--- A marker's bytes: the test of the first eight; what is written is read again. Assumes nothing.
-use mathlib.Core.Path.{◌≡◌, refl, sym, ◌∙◌}
-use mathlib.Core.Bool.{Bool, true, false}
+-- What reading a marker answers, test by test; what is written is read again. Assumes nothing.
+use mathlib.Core.Path.{◌≡◌}
+use mathlib.Core.Bool.{true, false}
 use mathlib.Core.List.{List}
 use Prim.Native.Nat.{ℕ, ◌^◌, ◌<◌}
 use native.Mathlib.Omega.{arith}
@@ -9,20 +9,8 @@ use lib.ListN.{length, take}
 use borrow.Author.Tests.{lt-leb, eq-eqb, ne_eqb}
 use Rattle.answers.specs.Answers.{given, refused}
 use Rattle.blocks.specs.Blocks.{le, bytes_of, block, same_bytes}
-use Rattle.std.specs.Str.{bytes_eq}
-use Rattle.std.proofs.lemmas.Slice.Eq.{bytes_eq-Decides}
 use Rattle.blocks.proofs.Laws.{le-bytes_of}
-use Rattle.blocks.proofs.Same.{same_equal, equal_same}
 use Rattle.rehash.specs.Marker.{magic, counts_of, read_answer, written_marker}
-
--- the code's test of the first eight bytes is the definition's, with the sides exchanged
-pub magic_test : (bs : List ℕ) (t : Bool) → t ≡ bytes_eq magic (take 8 bs) → same_bytes (take 8 bs) magic ≡ t
-magic_test bs true e = equal_same (take 8 bs) magic (sym ((bytes_eq-Decides magic (take 8 bs)).0 (sym e)))
-magic_test bs false e = go (same_bytes (take 8 bs) magic) refl
-  where
-    go : (u : Bool) → same_bytes (take 8 bs) magic ≡ u → u ≡ false
-    go true q = sym ((bytes_eq-Decides magic (take 8 bs)).1 (sym (same_equal (take 8 bs) magic q))) ∙ sym e
-    go false q = refl
 
 -- the answer, test by test
 pub read_short : (bs : List ℕ) → (length bs ≡ 16 → ⊥) → read_answer bs ≡ refused 15
