@@ -1,21 +1,18 @@
--- The two passes over a class: what each keeps true from bucket to bucket, and that together they find the first doubled label. A label that
+-- The two passes over a class: what each keeps true from bucket to bucket. A label that
 -- an earlier one equals has its key, so its cells are set when it comes. Assumes nothing.
 use mathlib.Core.Path.{◌≡◌, refl, sym, ap, ap₂, ◌∙◌}
 use mathlib.Core.Bool.{Bool, true, false, true≢false, ◌&&◌}
 use mathlib.Core.List.{List}
-use Prim.Native.Nat.{ℕ, ◌+◌, ◌-◌, ◌/◌, ◌≤◌, ◌<◌}
+use Prim.Native.Nat.{ℕ, ◌+◌, ◌≤◌, ◌<◌}
 use native.Mathlib.Decide.{ℕ_discrete}
-use native.Mathlib.Nat.{mod-lt}
 use native.Mathlib.Omega.{arith}
 use lib.Dec.{eqb}
-use lib.ListN.{length, get_or, set, length-set}
-use lib.Seq.{get_or-set_same, get_or-set_other}
+use lib.ListN.{length, get_or}
 use borrow.Author.Tests.{eq-eqb}
 use Rattle.ht_file.proofs.Laws.{both_hold}
 use Rattle.meta_map.specs.Tags.{is_full}
 use Rattle.label_search.specs.Labels.{doubled}
-use Rattle.label_search.specs.InnerSearch.{FirstDoubled}
-use Rattle.label_search.specs.InnerFilter.{key_of, key_at, class_of, with_key, has_key, of_class, bucket_of_class, KeysOf, Keeps, Noted, Suspected, Marking, Sought, Seeking, FirstOfClass}
+use Rattle.label_search.specs.InnerFilter.{key_of, key_at, class_of, with_key, has_key, of_class, bucket_of_class, Keeps, Noted, Suspected, Marking, Sought, Seeking, FirstOfClass}
 use Rattle.label_search.proofs.Labels.{doubled_told}
 use Rattle.label_search.proofs.Filters.{key_long, key_stays, key_added}
 
@@ -24,22 +21,6 @@ keeps_self f l = (l, λ key e. e)
 
 pub keeps_more : (f : List ℕ) (key : ℕ) → length f ≡ 16384 → Keeps f (with_key f key)
 keeps_more f key l = (key_long f key l, key_stays f key l)
-
--- ---- the keys of a block, one bucket more
-pub keys_more : (img : List ℕ) (n from b : ℕ) (keys : List ℕ) → from ≤ b → b < from + 16 → KeysOf img n from b keys → KeysOf img n from (b + 1) (set keys (b - from) (key_at img n b))
-keys_more img n from b keys l m k = (length-set keys (b - from) (key_at img n b) ∙ k.0, λ j h q f. go j h q f (ℕ_discrete j b))
-  where
-    go : (j : ℕ) → from ≤ j → j < b + 1 → is_full (get_or img j 0) ≡ true → Dec (j ≡ b) → get_or (set keys (b - from) (key_at img n b)) (j - from) 0 ≡ key_at img n j
-    go j h q f (yes e) =
-        ap (λ (i : ℕ). get_or (set keys (b - from) (key_at img n b)) (i - from) 0) e ∙ get_or-set_same keys (b - from) (key_at img n b) 0 (omega (arith, k.0)) ∙ ap (key_at img n) (sym e)
-    go j h q f (no e) = get_or-set_other keys (b - from) (j - from) (key_at img n b) 0 (λ z. absurd (e (omega arith))) ∙ k.1 j h (omega arith) f
-
-pub keys_skip : (img : List ℕ) (n from b : ℕ) (keys : List ℕ) → is_full (get_or img b 0) ≡ false → KeysOf img n from b keys → KeysOf img n from (b + 1) keys
-keys_skip img n from b keys e k = (k.0, λ j h q f. go j h q f (ℕ_discrete j b))
-  where
-    go : (j : ℕ) → from ≤ j → j < b + 1 → is_full (get_or img j 0) ≡ true → Dec (j ≡ b) → get_or keys (j - from) 0 ≡ key_at img n j
-    go j h q f (yes z) = absurd (true≢false (sym f ∙ ap (λ (i : ℕ). is_full (get_or img i 0)) z ∙ e))
-    go j h q f (no z) = k.1 j h (omega arith) f
 
 -- true and false at once
 clash : {A : Type 0} {t : Bool} → t ≡ true → t ≡ false → A
@@ -66,39 +47,16 @@ module _ (classes class tag key : ℕ) where
           suspected = λ o h. clash h e;
         }
 
-    pub noted_other : of_class classes class tag key ≡ false → Noted classes class tag key seen suspects seen suspects false
-    noted_other e =
-        record {
-          seen_keeps = keeps_self seen seen_long;
-          suspects_keeps = keeps_self suspects suspects_long;
-          is_seen = λ o. clash o e;
-          suspected = λ o h. clash o e;
-        }
-
   -- ---- a bucket of the second
   module _ (suspects seen : List ℕ) (seen_long : length seen ≡ 16384) where
-    pub sought_again : has_key seen key ≡ true → Sought classes class tag key suspects seen seen true
-    sought_again e =
-        record { seen_keeps = keeps_self seen seen_long; is_seen = λ o s. e; passed = λ q. absurd (true≢false q) }
-
     pub sought_new : has_key seen key ≡ false → Sought classes class tag key suspects seen (with_key seen key) false
     sought_new e =
         record { seen_keeps = keeps_more seen key seen_long; is_seen = λ o s. key_added seen key seen_long; passed = λ q o s. e }
-
-    pub sought_clear : has_key suspects key ≡ false → Sought classes class tag key suspects seen seen false
-    sought_clear e = record { seen_keeps = keeps_self seen seen_long; is_seen = λ o s. clash s e; passed = λ q o s. clash s e }
-
-    pub sought_other : of_class classes class tag key ≡ false → Sought classes class tag key suspects seen seen false
-    sought_other e = record { seen_keeps = keeps_self seen seen_long; is_seen = λ o s. clash o e; passed = λ q o s. clash o e }
 
 -- ---- the passes
 module _ (img : List ℕ) (n classes class : ℕ) where
   full_of_class : (b : ℕ) → is_full (get_or img b 0) ≡ true → class_of (key_at img n b) classes ≡ class → bucket_of_class img n classes class b ≡ true
   full_of_class b f e = ap₂ ◌&&◌ f (eq-eqb (class_of (key_at img n b) classes) class e)
-
-  pub mark_start : (seen suspects : List ℕ) → length seen ≡ 16384 → length suspects ≡ 16384 → Marking img n classes class 0 seen suspects false
-  mark_start seen suspects l m =
-      record { seen_long = l; suspects_long = m; in_seen = λ j h. absurd (omega arith); in_suspects = λ j h. absurd (omega arith) }
 
   -- the key that was read for bucket b, where it is full, is its label's
   module _ (b key : ℕ) (read : is_full (get_or img b 0) ≡ true → key ≡ key_at img n b) where
@@ -178,22 +136,6 @@ module _ (img : List ℕ) (n classes class : ℕ) where
         not_twice j h e (yes z) = ap (doubled img n) z ∙ at_it (ap (λ (i : ℕ). class_of (key_at img n i) classes) (sym z) ∙ e) (doubled img n b) refl r refl
         not_twice j h e (no z) = m.none j (omega arith) e
 
-  pub seek_start : (suspects seen : List ℕ) → length seen ≡ 16384 → Seeking img n classes class suspects 0 seen
-  seek_start suspects seen l = record { long = l; in_seen = λ j h. absurd (omega arith); none = λ j h. absurd (omega arith) }
-
-  -- what is suspected up to an end is up to an earlier one
-  pub suspected_less : (end to : ℕ) (suspects : List ℕ) (any : Bool) → to ≤ end → Suspected img n end classes class suspects any → Suspected img n to classes class suspects any
-  suspected_less end to suspects any l all b h = all b (omega arith)
-
-  -- no suspects, nothing doubled
-  pub none_suspected : (end : ℕ) (suspects : List ℕ) → Suspected img n end classes class suspects false → FirstOfClass img n end classes class end
-  none_suspected end suspects all =
-      record { within = omega arith; none = λ b h e. go b h e (doubled img n b) refl; there = λ h. absurd (omega arith) }
-    where
-      go : (b : ℕ) → b < end → class_of (key_at img n b) classes ≡ class → (r : Bool) → doubled img n b ≡ r → doubled img n b ≡ false
-      go b h e false d = d
-      go b h e true d = absurd (true≢false (sym (all b h e d).1))
-
 -- ---- one class after the other
 module _ (img : List ℕ) (n classes : ℕ) where
   -- at the head of the loop over the classes
@@ -202,9 +144,6 @@ module _ (img : List ℕ) (n classes : ℕ) where
     pub within : first ≤ n
     pub none : (b : ℕ) → b < first → class_of (key_at img n b) classes < class → doubled img n b ≡ false
     pub there : first < n → doubled img n first ≡ true
-
-  pub class_start : Classing 0 n
-  class_start = record { few = omega arith; within = omega arith; none = λ b h e. absurd (omega arith); there = λ h. absurd (omega arith) }
 
   pub class_turn : (class first r : ℕ) → class < classes → Classing class first → FirstOfClass img n first classes class r → Classing (class + 1) r
   class_turn class first r l m t =
@@ -222,7 +161,3 @@ module _ (img : List ℕ) (n classes : ℕ) where
       found : Dec (r ≡ first) → r < n → doubled img n r ≡ true
       found (yes q) h = ap (doubled img n) q ∙ m.there (omega (arith, q))
       found (no q) h = t.there (omega (arith, t.within, q))
-
-  pub class_end : (class first : ℕ) → 0 < classes → classes ≤ class → Classing class first → FirstDoubled img n first
-  class_end class first s l m =
-      record { within = m.within; none = λ b h. m.none b h (omega (arith, mod-lt (key_at img n b / 1152921504606846976) {m = classes} s)); there = m.there }
