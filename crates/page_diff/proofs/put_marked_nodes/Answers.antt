@@ -7,7 +7,7 @@ use Rattle.page_diff.specs.Diff.{slots, count_of}
 use Rattle.page_diff.specs.Pack.{node_at}
 use Rattle.page_diff.proofs.Nodes.{Nodes, nodes_start, page_turn, nodes_end}
 use Rattle.page_diff.proofs.SlotLaws.{slots_few}
-use Rattle.page_diff.proofs.Walk.{walk_begin, turn_on, turn_at, turn_low, turn_step, walk_done, plain_count}
+use Rattle.page_diff.proofs.Walk.{walk_begin, turn_on, turn_at, turn_low, turn_step, walk_done}
 use Rattle.page_diff.proofs.put_marked_nodes.Goals as goal
 use Rattle.page_diff.proofs.put_marked_nodes.Goals.{After-into_iter-c-iterator, In-Some}
 
@@ -27,9 +27,6 @@ on c =
       c.in-Some.ensures.steps.1,
     )
 
-few : (c : In-Some) → c.in-Some.c < 126
-few c = omega (arith, on c, plain_count c.args.d.words c.requires.0)
-
 low : (c : In-Some) → c.in-Some.slot < 126
 low c = turn_low c.args.d.words c.loop-c.c-iterator.iter.left.words c.next.new.self.iter.left.words c.loop-c.c-iterator.count c.in-Some.slot c.loop-c.invariant.walk c.in-Some.ensures.steps.0 c.requires.0
 
@@ -44,12 +41,6 @@ loop-c-init c =
       walk = walk_begin c.args.d.words c.into_iter-c-iterator.result.iter.left.words c.into_iter-c-iterator.result.count (whole b) (none b);
       nodes = subst (λ (n : ℕ). Nodes c.args.s.now c.args.at ns c.args.s.now n) (sym (none b)) (nodes_start c.args.s.now c.args.at ns (omega (arith, c.requires.1)));
     }
-
-pub overflow_mul-c : goal.overflow_mul-c
-overflow_mul-c c = omega (arith, few (goal.at.overflow_mul-c c).In-Some)
-
-pub overflow_add-at : goal.overflow_add-at
-overflow_add-at c = omega (arith, on (goal.at.overflow_add-at c).In-Some, c.requires.1)
 
 pub overflow_mul-slot : goal.overflow_mul-slot
 overflow_mul-slot c = omega (arith, low (goal.at.overflow_mul-slot c).In-Some)
