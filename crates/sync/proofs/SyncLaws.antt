@@ -5,14 +5,14 @@ use mathlib.Core.List.{List, []}
 use Prim.Native.Nat.{ℕ}
 use lib.ListN.{length}
 use Rattle.std.specs.Prelude.{Result, Ok, Err}
-use Rattle.answers.specs.Answers.{Answer, given, refused, answer_of}
+use Rattle.answers.specs.Answers.{Answer, given, refused}
 use Rattle.answers.specs.declared.Refusal.{Refusal}
 use Rattle.answers.specs.Refusals.{number_of}
 use Rattle.wal.specs.Writer.{finish_answer}
 use Rattle.wal.specs.declared.Start.{Start}
 use Rattle.wal.specs.declared.Writer.{Writer}
-use Rattle.sync.specs.Change.{AllWide, Mem, mem_of}
-use Rattle.sync.specs.Sync.{CameTo, before_changes, start_mem, start_state, start_answer, kept_if, said_if, said_finish, came, left, Going, on, unbegun, stopped, going_by, walk_going, wide_on, end_said, end_log, end_writer, SyncSaid, said_done, said_refused, said_refused_at, sync_says, sync_mem, sync_writer, widths_by, SyncPromise, synced_said, BeginPromise, WalkPromise, EndPromise, run_said}
+use Rattle.sync.specs.Change.{Mem, mem_of}
+use Rattle.sync.specs.Sync.{CameTo, before_changes, start_mem, start_state, start_answer, kept_if, said_if, said_finish, came, left, Going, on, unbegun, stopped, going_by, walk_going, wide_on, end_said, end_log, end_writer, SyncSaid, sync_says, sync_mem, sync_writer, widths_by, SyncPromise, BeginPromise, WalkPromise, EndPromise, run_said}
 use Rattle.sync.specs.declared.Change.{Change}
 use Rattle.sync.specs.declared.SyncRefusal.{SyncRefusal}
 use Rattle.sync.specs.declared.SyncRefusal.TheVariants as why

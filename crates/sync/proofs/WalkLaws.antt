@@ -1,6 +1,6 @@
 -- Laws of the walk over the changes: a sync that goes on comes to what its changes do, one that is refused at a change stops there. Assumes nothing.
 use Prim.Native.Nat.{ℕ, ◌+◌, ◌<◌, ◌≤◌}
-use mathlib.Core.Path.{◌≡◌, refl, sym, ap, ap₂, ◌∙◌}
+use mathlib.Core.Path.{◌≡◌, refl, sym, ap, ◌∙◌}
 use mathlib.Core.List.{List, [], ◌∷◌}
 use native.Mathlib.Nat.{le_antisymm}
 use native.Mathlib.Numerals.{add-one}

@@ -1,16 +1,12 @@
 -- The tests in order, then begin's answer, the zeroed marks and the count. Assumes nothing.
-use Rattle.std.proofs.Common.{◌≡◌, ◌∙◌, sym, ap, ap₂, subst, ℕ, Bool, true, cond, List, [], length, arith, rules, Result, Ok, Err, ◌*◌}
-use Rattle.answers.specs.Answers.{Answer, answer_of, refused}
+use Rattle.std.proofs.Common.{◌≡◌, ◌∙◌, sym, ap, ap₂, ℕ, Bool, true, cond, List, [], length, arith, rules, Err, ◌*◌}
 use Rattle.answers.specs.Refusals.{number_of}
-use Rattle.answers.specs.declared.Refusal.{Refusal}
-use Rattle.ht_file.specs.Places.{tags_fit, tag_pages}
+use Rattle.ht_file.specs.Places.{tags_fit}
 use Rattle.ht_file.proofs.Laws.{table_fits}
 use Rattle.meta_map.specs.Tags.{full, count_of}
 use Rattle.probe.specs.Path.{Limit, hit_limit}
-use Rattle.wal.specs.Run.{WideStart}
 use Rattle.sync.specs.Change.{mem_of, state_of}
-use Rattle.sync.specs.declared.SyncState.{SyncState}
-use Rattle.sync.proofs.StartLaws.{start_unfit, start_pages, start_marks, start_begin, begin_refused, begin_given, begun_left, begun_open, Begins}
+use Rattle.sync.proofs.StartLaws.{start_unfit, start_pages, start_marks, start_begin, begin_refused, begin_given, begun_left, begun_open}
 use Rattle.sync.proofs.begin_sync.Goals as goal
 use Rattle.sync.proofs.begin_sync.Goals.{In_ok-check_tags, Else-pages-ne0, After-begin}
 

@@ -1,5 +1,4 @@
 -- The step's answer is told on. Assumes nothing.
-use Rattle.std.proofs.Common.{◌∙◌, sym, ap}
 use Rattle.sync.specs.Change.{mem_of}
 use Rattle.sync.proofs.StartLaws.{change_refused, change_given, change_mem_lem}
 use Rattle.sync.proofs.change_at.Goals as goal

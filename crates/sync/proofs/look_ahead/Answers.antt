@@ -1,5 +1,5 @@
 -- The plan, then the test of room, then the search for a bucket: each as the definition has it. Assumes nothing.
-use Rattle.std.proofs.Common.{◌≡◌, ◌∙◌, sym, ap, ℕ, Bool, true, cond, length, [], Ok}
+use Rattle.std.proofs.Common.{◌≡◌, ◌∙◌, sym, ap, Bool, true, cond, length, [], Ok}
 use Rattle.answers.specs.Answers.{given, refused}
 use Rattle.page_diff.specs.Diff.{count_of}
 use Rattle.probe.specs.Path.{allocating, allocate_answer}

@@ -1,5 +1,5 @@
 -- Bit 126, then what the place names, then the tag rule: each as the definition has it. Assumes nothing.
-use Rattle.std.proofs.Common.{◌≡◌, ◌∙◌, sym, ap, rules, ℕ, Bool, true, false, cond, Option, Ok, Err, Some, None}
+use Rattle.std.proofs.Common.{◌≡◌, ◌∙◌, sym, ap, rules, Bool, cond, Ok, Err}
 use Rattle.answers.specs.Answers.{Answer, given, refused}
 use Rattle.answers.specs.Refusals.{number_of}
 use Rattle.answers.proofs.Laws.{given_one}

@@ -1,6 +1,6 @@
 -- The tests in order, then the arm of what look_ahead saw: each leaves what the definition says. Assumes nothing.
-use Rattle.std.proofs.Common.{◌≡◌, ◌∙◌, refl, sym, ap, ap₂, subst, ℕ, ◌≤◌, true, List, length, set, arith, rules, Result, Ok, Err}
-use Rattle.answers.specs.Answers.{given, refused, answer_of}
+use Rattle.std.proofs.Common.{◌≡◌, ◌∙◌, refl, sym, ap, ap₂, subst, ℕ, ◌≤◌, true, List, length, set, rules, Result, Ok, Err}
+use Rattle.answers.specs.Answers.{given}
 use Rattle.answers.specs.Refusals.{number_of}
 use Rattle.answers.specs.declared.Refusal.{Refusal}
 use Rattle.answers.specs.declared.Refusal.TheVariants.{LengthUnfit, WriterNotOpen}
