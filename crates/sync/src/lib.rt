@@ -191,31 +191,15 @@ fn look_ahead(
     requires { tags_fit st.n (length tags.now) ≡ true }
     ensures { LookPromise st (mem_of tags.now [] cells.now log.now) c result }
 {
-    let n = st.n;
-    let limit = st.limit;
-    let w = st.writer;
-    let d = c.diff;
-    let planned = plan(tags, n, cells, c)?;
+    let planned = plan(tags, st.n, cells, c)?;
+    let clearing = matches!(planned, Planned::Clears(_));
+    if !wal_write::has_room(log.len(), st.writer, sync_parts::body_of(clearing, c.diff)) {
+        return Err(Refusal::NoRoom);
+    }
     match planned {
-        Planned::Clears(b) => {
-            if wal_write::has_room(log.len(), w, sync_parts::body_of(true, d)) {
-                return Ok(Outlook::Clears(b));
-            }
-            Err(Refusal::NoRoom)
-        }
-        Planned::Updates(b) => {
-            if wal_write::has_room(log.len(), w, sync_parts::body_of(false, d)) {
-                return Ok(Outlook::Updates(b));
-            }
-            Err(Refusal::NoRoom)
-        }
-        Planned::Allocates => {
-            if wal_write::has_room(log.len(), w, sync_parts::body_of(false, d)) {
-                let b = probe::find_bucket(tags, n, c.hash, limit)?;
-                return Ok(Outlook::Takes(b));
-            }
-            Err(Refusal::NoRoom)
-        }
+        Planned::Clears(b) => Ok(Outlook::Clears(b)),
+        Planned::Updates(b) => Ok(Outlook::Updates(b)),
+        Planned::Allocates => Ok(Outlook::Takes(probe::find_bucket(tags, st.n, c.hash, st.limit)?)),
     }
 }
 
