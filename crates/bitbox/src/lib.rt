@@ -204,6 +204,8 @@ pub struct Audited {
 }
 
 // ---- from the proved crates' answers to these, and back
+// Each is a `From`. What crosses with something beside the answer, as a position or the state after a call, has a
+// function `of_..` of both, since a `From` takes one value.
 
 // A refusal, which has no value.
 fn refused(why: Refusal) -> Answer
@@ -330,6 +332,7 @@ impl From<Result<probe::Found, Refusal>> for Found {
 impl From<LogStart> for Start {
     ghost from_gives = { λ s t. t ≡ log_start_of s };
 
+    // (An array goes from struct to struct through a variable: the borrow checker covers no other way yet.)
     fn from(s: LogStart) -> Start {
         let seed = s.seed;
         Start {
@@ -640,7 +643,8 @@ pub extern "C" fn bitbox_diff_join(lo: u64, hi: u64, lo2: u64, hi2: u64) -> Diff
     page_diff::join(diff(lo, hi), diff(lo2, hi2))
 }
 
-// The nodes of a page's marked slots, by value: 2, 4.
+// The nodes of a page's marked slots, by value: 2, 4. (A match and no `unwrap_or_else`, which has three tables of nodes
+// on the stack in place of one.)
 #[tactic(auto, using(page_diff::proofs::PackLaws::packed_refused))]
 #[unsafe(no_mangle)]
 pub extern "C" fn bitbox_pack(lo: u64, hi: u64, page: &[u8]) -> PackAnswer
@@ -846,6 +850,7 @@ pub extern "C" fn bitbox_reader_set(log: &[u8]) -> Answer
 impl From<wal_read::WalEntry> for Entry {
     ghost from_gives = { λ e w. Worded e w };
 
+    // (Its arrays go through variables, as a seed does.)
     fn from(e: wal_read::WalEntry) -> Entry {
         let (refusal, kind, bucket) = match e.what {
             Ok(wal_read::What::Clear(b)) => (0, 1, b),
