@@ -13,6 +13,7 @@ pub fn add(set: &mut [u64], i: usize)
     ensures { set.new ≡ with_number set.old i }
 {
     let w = i / 64;
+    // By a test and the index: with `get_mut` the proof did not close.
     if w < set.len() {
         set[w] |= 1 << (i % 64);
     }
