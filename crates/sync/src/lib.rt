@@ -141,17 +141,16 @@ fn plan_named(tags: &[u8], n: usize, clearing: bool, hash: u64, b: u64) -> Resul
     requires { tags_fit n (length tags.now) ≡ true }
     ensures { planned_said result ≡ by_named clearing n tags.now hash (given (bucket b)) }
 {
-    if b < n as u64 {
-        let i = b as usize;
-        if sync_parts::tag_fits(hash, tags[i]) {
-            if clearing {
-                return Ok(Planned::Clears(b));
-            }
-            return Ok(Planned::Updates(b));
-        }
+    if b >= n as u64 {
+        return Err(Refusal::BucketOutside);
+    }
+    if !sync_parts::tag_fits(hash, tags[b as usize]) {
         return Err(Refusal::BucketUnfit);
     }
-    Err(Refusal::BucketOutside)
+    if clearing {
+        return Ok(Planned::Clears(b));
+    }
+    Ok(Planned::Updates(b))
 }
 
 // What a change is to do, on the tags and the cells as they are: 4, 2, 9 and 14 are decided here.
