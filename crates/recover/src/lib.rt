@@ -55,6 +55,7 @@ fn check_log(log: &[u8], n: usize, hashes: usize, rule: AfterEnd) -> Result<(), 
     let edition = wal_read::edition_of(log);
     let mut at = wal::start_size(edition);
     let mut updates: usize = 0;
+    // Each record tells where the next one stands, so there is no range to go over.
     loop {
         let head = wal_read::head_by(log, at, edition, rule)?;
         match head {
@@ -98,7 +99,7 @@ fn write_node(part: &mut [u8], node: [u8; 32])
     requires { length part.old ≡ 32 }
     ensures { (part.new ≡ node) × (length node ≡ 32) }
 {
-    blocks::put_32(part, 0, node);
+    part.copy_from_slice(&node);
 }
 
 // Writes the elided children and the page id, lent a page's last 40 bytes alone.
@@ -106,8 +107,9 @@ fn write_label(part: &mut [u8], elided: [u8; 8], id: [u8; 32])
     requires { length part.old ≡ 40 }
     ensures { (part.new ≡ elided ++ id) × (length elided ≡ 8) × (length id ≡ 32) }
 {
-    blocks::put_8(part, 0, elided);
-    blocks::put_32(part, 8, id);
+    let (first, last) = part.split_at_mut(8);
+    first.copy_from_slice(&elided);
+    last.copy_from_slice(&id);
 }
 
 // The marked slots of a page take the nodes that stand in the log from `from` on; the rest stays.
@@ -117,6 +119,7 @@ fn write_slots(page: &mut [u8], d: Diff, log: &[u8], from: usize)
 {
     let mut c = 0;
     let mut left = d;
+    // The slots are walked by `next_slot`, and c counts their nodes: there is no iterator to enumerate.
     while let Some((s, rest)) = page_diff::next_slot(left) {
         let node = blocks::block_32(log, from + 32 * c);
         let a = 32 * s;
@@ -241,6 +244,7 @@ fn run(image: &mut [u8], n: usize, log: &[u8], hashes: &[u64])
     let edition = wal_read::edition_of(log);
     let mut at = wal::start_size(edition);
     let mut used: usize = 0;
+    // Each step tells where the next one stands, so there is no range to go over.
     loop {
         let hash = hash_at(hashes, used);
         match apply_at(image, n, log, edition, at, hash, AfterEnd::Tolerant) {
@@ -262,18 +266,14 @@ fn run(image: &mut [u8], n: usize, log: &[u8], hashes: &[u64])
 fn hash_at(hashes: &[u64], i: usize) -> u64
     ensures { result ≡ get_or hashes.now i 0 }
 {
-    if i < hashes.len() {
-        return hashes[i];
-    }
-    0
+    hashes.get(i).copied().unwrap_or(0)
 }
 
 // Whether a log is of the store with this seed: one of edition one names no store, so it is taken for any.
 fn of_store(log: &[u8], seed: [u8; 16]) -> bool
     ensures { result ≡ of_store log.now seed }
 {
-    let edition = wal_read::edition_of(log);
-    match edition {
+    match wal_read::edition_of(log) {
         Edition::One => true,
         Edition::Two => blocks::same_16(wal_read::seed_of(log), seed),
     }
