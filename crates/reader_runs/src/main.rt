@@ -179,7 +179,7 @@ fn show_counts(n: usize, at: usize, tried: u64, refused: u64, ended: u64) {
 
 // A log of n bytes that is a start and an end, then zeros; each byte after end is set by itself.
 fn show_after(bytes: &[u8], n: usize)
-    requires { (length bytes.now ≤ n) × (n ≤ 12288) }
+    requires { (length bytes.now ≤ 12288) × (n ≤ 12288) }
 {
     let mut log = [0u8; 12288];
     lay(&mut log, 0, bytes);
@@ -192,12 +192,12 @@ fn show_after(bytes: &[u8], n: usize)
         ended += u64::from(ended_twice(&log[..n], at));
         log[i] = 0;
     }
-    show_counts(n, at, (n - bytes.len()) as u64, refused, ended);
+    show_counts(n, at, n.saturating_sub(bytes.len()) as u64, refused, ended);
 }
 
 // Such a log of one page, and of three.
 fn show_pages(title: &[u8], bytes: &[u8])
-    requires { length bytes.now ≤ 4096 }
+    requires { length bytes.now ≤ 12288 }
 {
     io::write_all(1, title);
     show_after(bytes, 4096);
