@@ -6,7 +6,7 @@
 
 use answers::Refusal;
 use page_diff::Diff;
-use sync::{Change, Place, Run, SyncAnswer, SyncStart, SyncState, Synced, Taken};
+use sync::{Change, Place, SyncRefusal, SyncStart, SyncState, Synced, Taken};
 use wal::{Edition, Start, Writer};
 
 const N: usize = 4;
@@ -42,36 +42,30 @@ fn say_number(text: &[u8], x: u64) {
 }
 
 fn say_refusal(why: Refusal) {
-    say_number(b": refused ", answers::number_of(why) as u64);
+    say_number(b": refused ", u64::from(answers::number_of(why)));
 }
 
-fn say_refused_at(j: usize, why: Refusal) {
-    say_refusal(why);
-    say_number(b" at ", j as u64);
-}
-
-fn say_done(occupied: u64, length: u64) {
-    say_number(b": done ", occupied);
-    say_number(b" ", length);
-}
-
-fn say_synced(r: Synced) {
+fn say_synced(r: Result<Synced, SyncRefusal>) {
     match r {
-        Synced::Done { occupied, length } => say_done(occupied, length),
-        Synced::Refused(why) => say_refusal(why),
-        Synced::RefusedAt(j, why) => say_refused_at(j, why),
+        Ok(s) => {
+            say_number(b": done ", s.occupied);
+            say_number(b" ", s.length);
+        }
+        Err(SyncRefusal::Refused(why)) => say_refusal(why),
+        Err(SyncRefusal::RefusedAt(j, why)) => {
+            say_refusal(why);
+            say_number(b" at ", j as u64);
+        }
     }
 }
 
-fn say_at(bucket: u64, page: u64) {
-    say_number(b": bucket ", bucket);
-    say_number(b" page ", page);
-}
-
-fn say_taken(r: Taken) {
+fn say_taken(r: Result<Taken, Refusal>) {
     match r {
-        Taken::At { bucket, page } => say_at(bucket, page),
-        Taken::Refused(why) => say_refusal(why),
+        Ok(t) => {
+            say_number(b": bucket ", t.bucket);
+            say_number(b" page ", t.page);
+        }
+        Err(why) => say_refusal(why),
     }
 }
 
@@ -83,90 +77,37 @@ fn say_writer(w: Writer) {
     }
 }
 
-fn say_small(byte: u8) {
-    say_number(b" ", byte as u64);
-}
-
-// A byte of a slice, where it has one.
-fn say_byte(s: &[u8], i: usize) {
-    if i < s.len() {
-        let byte = s[i];
-        say_small(byte);
+// The bytes of a slice at some places, where it has them.
+fn say_bytes(text: &[u8], s: &[u8], places: &[usize]) {
+    say(text);
+    for i in places {
+        if let Some(byte) = s.get(*i) {
+            say_number(b" ", u64::from(*byte));
+        }
     }
 }
 
-fn say_cell(cells: &[u64], i: usize) {
-    if i < cells.len() {
-        say_number(b" ", cells[i]);
-    }
-}
-
-fn say_tags(tags: &[u8]) {
-    say(b"; tags");
-    say_byte(tags, 0);
-    say_byte(tags, 1);
-    say_byte(tags, 2);
-    say_byte(tags, 3);
-}
-
-// The start of the log; the first record's kind and first field, and what follows it if it is a clear.
-fn say_start(log: &[u8]) {
-    say(b"; log");
-    say_byte(log, 0);
-    say_byte(log, 1);
-    say_byte(log, 5);
-    say_byte(log, 6);
-    say_byte(log, 14);
-}
-
-// Where an update of one slot stands first: its diff, its node, its elided children, its bucket, and what
-// follows it.
-fn say_first(log: &[u8]) {
-    say(b",");
-    say_byte(log, 38);
-    say_byte(log, 54);
-    say_byte(log, 86);
-    say_byte(log, 94);
-    say_byte(log, 102);
-}
-
-// Where it stands second: its node, its elided children, its bucket, and what follows it, after a clear
-// and after another such update.
-fn say_second(log: &[u8]) {
-    say(b",");
-    say_byte(log, 63);
-    say_byte(log, 95);
-    say_byte(log, 103);
-    say_byte(log, 111);
-    say(b",");
-    say_byte(log, 151);
-    say_byte(log, 183);
-    say_byte(log, 191);
-    say_byte(log, 199);
-}
-
-fn say_memory(tags: &[u8], marks: &[u8], cells: &[u64], log: &[u8]) {
-    say_tags(tags);
-    say(b"; marks");
-    say_byte(marks, 0);
-    say_byte(marks, 1);
-    say(b"; cells");
-    say_cell(cells, 0);
-    say_cell(cells, 1);
-    say_start(log);
-    say_first(log);
-    say_second(log);
+// Of the log: its start, the first record's kind and first field, and what follows it if it is a clear. Then where an
+// update of one slot stands first: its diff, its node, its elided children, its bucket, and what follows it. Then where
+// it stands second, without its diff: after a clear, and after another such update.
+fn say_memory(tags: &[u8], marks: &[u8], cells: &[u64; 2], log: &[u8]) {
+    say_bytes(b"; tags", tags, &[0, 1, 2, 3]);
+    say_bytes(b"; marks", marks, &[0, 1]);
+    say_number(b"; cells ", cells[0]);
+    say_number(b" ", cells[1]);
+    say_bytes(b"; log", log, &[0, 1, 5, 6, 14]);
+    say_bytes(b",", log, &[38, 54, 86, 94, 102]);
+    say_bytes(b",", log, &[63, 95, 103, 111]);
+    say_bytes(b",", log, &[151, 183, 191, 199]);
     say(b"\n");
 }
 
 // A change of slot 0, by a diff with this high word.
 fn change(hash: u64, high: u64, place: Place) -> Change {
-    let words = [1, high];
-    let diff = Diff { words };
     Change {
         id: [33; 32],
         hash,
-        diff,
+        diff: Diff { words: [1, high] },
         place,
     }
 }
@@ -175,46 +116,48 @@ fn fresh() -> Change {
     change(0, PLAIN, sync::fresh())
 }
 
-// The first `count` of two changes, one after the other.
+// A page, by its first byte and the first of its elided children.
+fn page(first: u8, elided: u8) -> [u8; 4096] {
+    let mut page = [5u8; 4096];
+    page[0] = first;
+    page[4056] = elided;
+    page
+}
+
+// Two such pages, one after the other.
+fn two_pages() -> [u8; 8192] {
+    let mut pages = [0u8; 8192];
+    pages[..4096].copy_from_slice(&page(50, 51));
+    pages[4096..].copy_from_slice(&page(60, 61));
+    pages
+}
+
+// Tags that start with these two.
+fn tags(tag_0: u8, tag_1: u8) -> [u8; 4096] {
+    let mut tags = [0u8; 4096];
+    tags[0] = tag_0;
+    tags[1] = tag_1;
+    tags
+}
+
+// A sync's start, and the changes, one after the other.
 fn changed(
     tags: &mut [u8],
     marks: &mut [u8],
     cells: &mut [u64],
     log: &mut [u8],
     pages: &[u8],
-    first: Change,
-    second: Change,
-    count: usize,
-    begun: Run,
-) -> Run {
-    if count == 0 {
-        return begun;
-    }
-    let one = sync::change_at(tags, marks, cells, log, pages, first, 0, begun);
-    if count == 1 {
-        return one;
-    }
-    sync::change_at(tags, marks, cells, log, pages, second, 1, one)
-}
-
-// A sync of them: its start, the changes, its end.
-fn synced_by(
-    tags: &mut [u8],
-    marks: &mut [u8],
-    cells: &mut [u64],
-    log: &mut [u8],
-    pages: &[u8],
-    first: Change,
-    second: Change,
-    count: usize,
+    changes: &[Change],
     start: SyncStart,
-) -> SyncAnswer {
-    let begun = sync::begin_sync(&tags[..], marks, log, pages, count, start);
-    let came = changed(tags, marks, cells, log, pages, first, second, count, begun);
-    sync::end_sync(log, came)
+) -> Result<SyncState, SyncRefusal> {
+    let mut st = sync::begin_sync(&tags[..], marks, log, pages, changes.len(), start)?;
+    for (j, c) in changes.iter().enumerate() {
+        st = sync::change_at(tags, marks, cells, log, pages, *c, j, st)?;
+    }
+    Ok(st)
 }
 
-// Such a sync, its log starting so, and what it left.
+// Such a sync to its end, its log starting so, and what it left.
 fn synced_from(
     title: &[u8],
     tags: &mut [u8],
@@ -222,209 +165,127 @@ fn synced_from(
     log: &mut [u8],
     pages: &[u8],
     cell: u64,
-    first: Change,
-    second: Change,
-    count: usize,
+    changes: &[Change],
     n: usize,
     log_start: Start,
 ) {
     let mut cells = [cell, 7];
-    let start = SyncStart {
-        n,
-        log_start,
-        writer: Writer::Open(77, Edition::One),
-    };
-    let r = synced_by(
-        tags, marks, &mut cells, log, pages, first, second, count, start,
-    );
-    let answer = r.synced;
-    let writer = r.writer;
+    let start = SyncStart { n, log_start };
+    let came = changed(tags, marks, &mut cells, log, pages, changes, start);
+    let mut writer = Writer::Open(77, Edition::One);
+    let r = sync::end_sync(log, came, &mut writer);
     say(title);
-    say_synced(answer);
+    say_synced(r);
     say_writer(writer);
     say_memory(tags, marks, &cells, log);
 }
 
-// The same of edition one, with the number of all runs.
+// The same of edition one, with the number of all runs, and an unset cell.
 fn synced(
     title: &[u8],
     tags: &mut [u8],
     marks: &mut [u8],
     log: &mut [u8],
     pages: &[u8],
-    cell: u64,
-    first: Change,
-    second: Change,
-    count: usize,
+    changes: &[Change],
     n: usize,
 ) {
-    synced_from(
-        title,
-        tags,
-        marks,
-        log,
-        pages,
-        cell,
-        first,
-        second,
-        count,
-        n,
-        wal::edition_one(SEQN),
-    );
+    let start = wal::edition_one(SEQN);
+    synced_from(title, tags, marks, log, pages, UNSET, changes, n, start);
 }
 
 // One change on a table with these two tags first.
 fn one(title: &[u8], tag_0: u8, tag_1: u8, cell: u64, c: Change) {
-    let mut tags = [0u8; 4096];
-    tags[0] = tag_0;
-    tags[1] = tag_1;
-    let mut marks = [WAS; 1];
-    let mut log = [WAS; 8192];
-    let mut page = [5u8; 4096];
-    page[0] = 50;
-    page[4056] = 51;
-    synced(
-        title, &mut tags, &mut marks, &mut log, &page, cell, c, c, 1, N,
+    synced_from(
+        title,
+        &mut tags(tag_0, tag_1),
+        &mut [WAS; 1],
+        &mut [WAS; 8192],
+        &page(50, 51),
+        cell,
+        &[c],
+        N,
+        wal::edition_one(SEQN),
     );
 }
 
 // One fresh page, its log of edition two: the seed's bytes stand where edition one has its first record.
 fn edition_two() {
-    let mut tags = [0u8; 4096];
-    let mut marks = [WAS; 1];
-    let mut log = [WAS; 8192];
-    let mut page = [5u8; 4096];
-    page[0] = 50;
-    page[4056] = 51;
-    let c = fresh();
     synced_from(
         b"edition two",
-        &mut tags,
-        &mut marks,
-        &mut log,
-        &page,
+        &mut [0; 4096],
+        &mut [WAS; 1],
+        &mut [WAS; 8192],
+        &page(50, 51),
         UNSET,
-        c,
-        c,
-        1,
+        &[fresh()],
         N,
         wal::edition_two(SEQN, [40; 16]),
     );
 }
 
 // Two changes, each with its own page.
-fn two(title: &[u8], tag_0: u8, tag_1: u8, cell: u64, first: Change, second: Change) {
-    let mut tags = [0u8; 4096];
-    tags[0] = tag_0;
-    tags[1] = tag_1;
-    let mut marks = [WAS; 1];
-    let mut log = [WAS; 8192];
-    let mut pages = [5u8; 8192];
-    pages[0] = 50;
-    pages[4056] = 51;
-    pages[4096] = 60;
-    pages[8152] = 61;
+fn two(title: &[u8], tag_0: u8, tag_1: u8, first: Change, second: Change) {
     synced(
-        title, &mut tags, &mut marks, &mut log, &pages, cell, first, second, 2, N,
+        title,
+        &mut tags(tag_0, tag_1),
+        &mut [WAS; 1],
+        &mut [WAS; 8192],
+        &two_pages(),
+        &[first, second],
+        N,
     );
 }
 
 // ---- what a sync tests before its first change
 fn no_changes() {
-    let mut tags = [MINE; 4096];
-    let mut marks = [WAS; 1];
-    let mut log = [WAS; 8192];
-    let c = fresh();
     synced(
         b"no changes",
-        &mut tags,
-        &mut marks,
-        &mut log,
+        &mut [MINE; 4096],
+        &mut [WAS; 1],
+        &mut [WAS; 8192],
         b"",
-        UNSET,
-        c,
-        c,
-        0,
+        &[],
         N,
     );
 }
 
-fn short_pages() {
-    let mut tags = [0u8; 4096];
-    let mut marks = [WAS; 1];
-    let mut log = [WAS; 8192];
-    let page = [5u8; 4095];
-    let c = fresh();
+fn lengths_refused() {
+    let c = [fresh()];
     synced(
         b"pages short",
-        &mut tags,
-        &mut marks,
-        &mut log,
-        &page,
-        UNSET,
-        c,
-        c,
-        1,
+        &mut [0; 4096],
+        &mut [WAS; 1],
+        &mut [WAS; 8192],
+        &[5; 4095],
+        &c,
         N,
     );
-}
-
-fn many_marks() {
-    let mut tags = [0u8; 4096];
-    let mut marks = [WAS; 2];
-    let mut log = [WAS; 8192];
-    let page = [5u8; 4096];
-    let c = fresh();
     synced(
         b"two marks",
-        &mut tags,
-        &mut marks,
-        &mut log,
-        &page,
-        UNSET,
-        c,
-        c,
-        1,
+        &mut [0; 4096],
+        &mut [WAS; 2],
+        &mut [WAS; 8192],
+        &[5; 4096],
+        &c,
         N,
     );
-}
-
-fn no_buckets() {
-    let mut tags = [0u8; 4096];
-    let mut marks = [WAS; 1];
-    let mut log = [WAS; 8192];
-    let page = [5u8; 4096];
-    let c = fresh();
     synced(
         b"no buckets",
-        &mut tags,
-        &mut marks,
-        &mut log,
-        &page,
-        UNSET,
-        c,
-        c,
-        1,
+        &mut [0; 4096],
+        &mut [WAS; 1],
+        &mut [WAS; 8192],
+        &[5; 4096],
+        &c,
         0,
     );
-}
-
-fn short_log() {
-    let mut tags = [0u8; 4096];
-    let mut marks = [WAS; 1];
-    let mut log = [WAS; 4095];
-    let page = [5u8; 4096];
-    let c = fresh();
     synced(
         b"log short",
-        &mut tags,
-        &mut marks,
-        &mut log,
-        &page,
-        UNSET,
-        c,
-        c,
-        1,
+        &mut [0; 4096],
+        &mut [WAS; 1],
+        &mut [WAS; 4095],
+        &[5; 4096],
+        &c,
         N,
     );
 }
@@ -487,41 +348,38 @@ fn diffs_refused() {
 // ---- two changes
 fn one_cell() {
     let c = change(0, PLAIN, sync::cell(0));
-    two(b"one unset cell twice", OTHER, 0, UNSET, c, c);
+    two(b"one unset cell twice", OTHER, 0, c, c);
 }
 
 fn taken_again() {
     let c = change(OTHERS, CLEARED, sync::known(0));
-    two(b"cleared and taken again", OTHER, 0, UNSET, c, fresh());
+    two(b"cleared and taken again", OTHER, 0, c, fresh());
 }
 
 fn second_refused() {
     let c = change(0, PLAIN, sync::known(1));
-    two(b"second refused", 0, OTHER, UNSET, fresh(), c);
+    two(b"second refused", 0, OTHER, fresh(), c);
 }
 
 // ---- one step alone
 fn stepped(title: &[u8], writer: Writer, c: Change) {
-    let mut tags = [0u8; 4096];
-    tags[1] = MINE;
+    let mut tags = tags(0, MINE);
     let mut marks = [WAS; 1];
     let mut cells = [UNSET, 7];
     let mut log = [WAS; 8192];
-    let page = [5u8; 4096];
-    let st = SyncState {
+    let mut st = SyncState {
         n: N,
         limit: probe::hit_limit(),
         writer,
         occupied: 0,
     };
-    let r = sync::step(&mut tags, &mut marks, &mut cells, &mut log, &page, c, st);
-    let taken = r.taken;
-    let after = r.state;
-    let left = after.writer;
+    let r = sync::step(
+        &mut tags, &mut marks, &mut cells, &mut log, &[5; 4096], c, &mut st,
+    );
     say(title);
-    say_taken(taken);
-    say_number(b" occupied ", after.occupied);
-    say_writer(left);
+    say_taken(r);
+    say_number(b" occupied ", st.occupied);
+    say_writer(st.writer);
     say_memory(&tags, &marks, &cells, &log);
 }
 
@@ -549,10 +407,7 @@ fn main() {
     no_changes();
     one(b"one fresh", 0, 0, UNSET, fresh());
     edition_two();
-    short_pages();
-    many_marks();
-    no_buckets();
-    short_log();
+    lengths_refused();
     cells_refused();
     buckets_refused();
     diffs_refused();
