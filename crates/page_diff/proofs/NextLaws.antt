@@ -1,20 +1,20 @@
 -- The step along the marked slots by trailing zeros and a cleared bit: the lowest set digit is the first slot, and `x & (x - 1)` is the
 -- word without it. Assumes nothing.
-use mathlib.Core.Path.{◌≡◌, refl, sym, ap, ap₂, ◌∙◌}
-use mathlib.Core.Bool.{Bool, true, false, not, ◌&&◌, true≢false, and-true, and-false}
+use mathlib.Core.Path.{◌≡◌, sym, ap, ap₂, ◌∙◌}
+use mathlib.Core.Bool.{Bool, false, not, ◌&&◌, and-true, and-false}
 use mathlib.Core.List.{List, [], ◌∷◌}
 use Prim.Native.Nat.{ℕ, suc, ◌+◌, ◌-◌, ◌*◌, ◌/◌, ◌^◌, ◌≤◌, ◌<◌}
 use native.Mathlib.Nat.{lt_of_not-le, lt_of_le_of_lt}
 use native.Mathlib.Decide.{dec_le}
 use native.Mathlib.Omega.{arith}
 use lib.Dec.{eqb}
-use lib.ListN.{length, get_or}
+use lib.ListN.{get_or}
 use lib.Bits.{bit_and, and_le_l}
 use lib.Count.{count_trailing_zeros}
 use borrow.Author.Tests.{eq-eqb, ne_eqb}
 use Rattle.page_diff.specs.Diff.{digit, marked, first_slot, without_first}
 use Rattle.page_diff.proofs.Digits.{digit_none, lowest, lowest_found, drop_lowest, digit_dropped_low, digit_dropped_high}
-use Rattle.page_diff.proofs.MarkLaws.{bit, on, off, eqb_iff, mark_low, mark_high, by_marks, two_words, by_word}
+use Rattle.page_diff.proofs.MarkLaws.{bit, on, off, eqb_iff, mark_low, mark_high, two_words, by_word}
 use Rattle.page_diff.proofs.SlotLaws.{first_is, first_none}
 
 -- a word without its lowest set digit, at t
@@ -31,11 +31,6 @@ without_lowest x t i h e = ap (λ (n : ℕ). bit n i) (drop_lowest x t h e) ∙ 
     go (no p) (no q) =
         off (digit_dropped_low x (suc t) i (lt_of_not-le p))
         ∙ sym (ap (λ (b : Bool). b && not (eqb i t)) (off (h i (lt_of_not-le q))))
-
--- an unmarked slot is unmarked without any other
-unmarked : (b c : Bool) → b ≡ false → b ≡ (b && c)
-unmarked true c e = absurd (true≢false e)
-unmarked false c e = refl
 
 module _ (ws : List ℕ) (h : get_or ws 0 0 < 2 ^ 64) (k : get_or ws 1 0 < 2 ^ 64) where
   -- the low word is not 0: its lowest digit is the first slot
@@ -97,8 +92,3 @@ module _ (ws : List ℕ) (h : get_or ws 0 0 < 2 ^ 64) (k : get_or ws 1 0 < 2 ^ 6
   -- there is no mark
   pub no_first : get_or ws 0 0 ≡ 0 → get_or ws 1 0 ≡ 0 → first_slot ws ≡ 128
   no_first y z = first_none ws (none_marked y z)
-
-  pub no_rest : length ws ≡ 2 → get_or ws 0 0 ≡ 0 → get_or ws 1 0 ≡ 0 → ws ≡ without_first ws
-  no_rest e y z =
-      by_marks (λ s. marked ws s && not (eqb s (first_slot ws))) ws e h k
-      (λ s v. unmarked (marked ws s) (not (eqb s (first_slot ws))) (none_marked y z s v))

@@ -1,6 +1,6 @@
 -- Nodes put one after the other, out of a table or out of a page. Assumes nothing.
 use mathlib.Core.Path.{◌≡◌, refl, sym, ap, ◌∙◌}
-use mathlib.Core.Bool.{true, false}
+use mathlib.Core.Bool.{false}
 use mathlib.Core.List.{List, [], ◌∷◌, ◌++◌, map}
 use Prim.Native.Nat.{ℕ, zero, suc, ◌+◌, ◌-◌, ◌*◌, ◌≤◌, ◌<◌}
 use native.Mathlib.Nat.{lt_of_not-le}
@@ -84,10 +84,7 @@ table_bytes page ss =
 pub nodes_plain : (s : List ℕ) (at : ℕ) (ws page : List ℕ) → reserved ws ≡ false → nodes_put s at ws page ≡ put s at (flat (map (node_at page) (slots ws)))
 nodes_plain s at ws page r = simp r
 
--- and nodes that are not put leave s
-pub nodes_none : (s : List ℕ) (at : ℕ) (ws page : List ℕ) → reserved ws ≡ true → nodes_put s at ws page ≡ s
-nodes_none s at ws page r = simp r
-
+-- and nodes that would go past the end leave s
 pub nodes_short : (s : List ℕ) (at : ℕ) (ws page : List ℕ) → reserved ws ≡ false → length s < at + 32 * count_of ws → nodes_put s at ws page ≡ s
 nodes_short s at ws page r l =
     nodes_plain s at ws page r ∙ put_short s at (flat (map (node_at page) (slots ws))) (omega (arith, page_nodes-length page (slots ws)))

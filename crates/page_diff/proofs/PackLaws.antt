@@ -121,9 +121,6 @@ module _ (ws page : List ℕ) where
   unfolding pack_answer
   pack_given l e = simp (eq-eqb (length page) 4096 l, e)
 
-  pub packed_refused : (n : ℕ) → pack_answer ws page ≡ refused n → packed_by (replicate 126 (replicate 32 0)) 0 ≡ packed_of ws page
-  packed_refused n e = ap (λ (t : List (List ℕ)). packed_by t 0) (table_none page) ∙ sym (ap (λ (a : Answer (Unit {0})). cond (accepted a) (packed_by (table_of page (slots ws)) (count_of ws)) (packed_by (table_of page []) 0)) e)
-
   pub packed_given : pack_answer ws page ≡ given tt → packed_by (table_of page (slots ws)) (count_of ws) ≡ packed_of ws page
   packed_given e = sym (ap (λ (a : Answer (Unit {0})). cond (accepted a) (packed_by (table_of page (slots ws)) (count_of ws)) (packed_by (table_of page []) 0)) e)
 

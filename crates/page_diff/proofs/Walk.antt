@@ -2,7 +2,7 @@
 use mathlib.Core.Path.{◌≡◌, refl, sym, ap, ◌∙◌, subst}
 use mathlib.Core.Bool.{Bool, true, false, not, ◌&&◌, ◌||◌, true≢false}
 use mathlib.Core.List.{List, [], ◌∷◌}
-use Prim.Native.Nat.{ℕ, ◌+◌, ◌≤◌, ◌<◌, zero-le}
+use Prim.Native.Nat.{ℕ, ◌+◌, ◌≤◌, ◌<◌}
 use native.Mathlib.Nat.{lt_of_not-le}
 use native.Mathlib.Decide.{dec_le}
 use native.Mathlib.Omega.{arith}
@@ -22,9 +22,6 @@ without_slots ws ls e =
 pub record Walk (ws ls : List ℕ) (c : ℕ) : Type 0 where
   pub left : slots ls ≡ drop c (slots ws)
   pub upto : c ≤ count_of ws
-
-pub walk_start : (ws : List ℕ) → Walk ws ws 0
-walk_start ws = record { left = refl; upto = zero-le }
 
 module _ (ws ls : List ℕ) (c s : ℕ) (w : Walk ws ls c) (first : s ≡ first_slot ls) where
   -- the next slot

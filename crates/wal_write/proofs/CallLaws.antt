@@ -2,9 +2,7 @@
 use mathlib.Core.Path.{◌≡◌, refl, sym, ap, ap₂, ◌∙◌}
 use mathlib.Core.Bool.{Bool, true, false, cond}
 use mathlib.Core.List.{List}
-use Prim.Native.Nat.{ℕ, ◌+◌, ◌-◌, ◌≤◌, ◌<◌}
-use native.Mathlib.Nat.{lt_of_not-le}
-use native.Mathlib.Decide.{dec_le}
+use Prim.Native.Nat.{ℕ, ◌+◌, ◌≤◌, ◌<◌}
 use native.Mathlib.Omega.{arith}
 use lib.Dec.{leb, eqb}
 use lib.ListN.{length}
@@ -18,14 +16,6 @@ use Rattle.wal.specs.declared.Edition.{Edition}
 use Rattle.wal.specs.declared.Writer.{Writer}
 use Rattle.wal.specs.declared.Writer.TheVariants.{Fresh, Open, Finished}
 use Rattle.wal_write.specs.Calls.{page_update_answer}
-
--- ---- room, tested by differences
-pub room_test : (at size m cap : ℕ) → size ≤ cap → m ≤ cap - size → leb at (cap - size - m) ≡ leb (at + size + m) cap
-room_test at size m cap h k = go (dec_le at (cap - size - m))
-  where
-    go : Dec (at ≤ cap - size - m) → leb at (cap - size - m) ≡ leb (at + size + m) cap
-    go (yes p) = le-leb at (cap - size - m) p ∙ sym (le-leb (at + size + m) cap (omega arith))
-    go (no p) = lt-leb at (cap - size - m) (lt_of_not-le p) ∙ sym (lt-leb (at + size + m) cap (omega (arith, lt_of_not-le p)))
 
 -- ---- begin
 pub begin_short : (log : List ℕ) → length log < 4096 → begin_answer log ≡ refused 13
