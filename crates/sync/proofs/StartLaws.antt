@@ -46,12 +46,12 @@ module _ (st : SyncState) (m : Mem) (pages page : List ℕ) (c : Change) (j : �
   there p = going_by (came_by (effect_of st m p c) j) (state_by (effect_of st m p c) st c)
 
   module _ (t : Result Taken Refusal) (said : taken_said t ≡ page_number st (effect_of st m page c)) where
-    pub change_refused : (r : Refusal) → t ≡ Err r → stopped j (number_of r) ≡ change_going m pages c j st
+    pub change_refused : (r : Refusal) → t ≡ Err r → stopped j (number_of r) ≡ change_going m pages c j (on st)
     unfolding change_at
     change_refused r h =
         refused_going (effect_of st m page c) (number_of r) (state_by (effect_of st m page c) st c) (sym (ap taken_said h) ∙ said) ∙ ap there e
 
-    pub change_given : (s : SyncState) → s ≡ state_by (effect_of st m page c) st c → (x : Taken) → t ≡ Ok x → on s ≡ change_going m pages c j st
+    pub change_given : (s : SyncState) → s ≡ state_by (effect_of st m page c) st c → (x : Taken) → t ≡ Ok x → on s ≡ change_going m pages c j (on st)
     unfolding change_at
     change_given s state x h =
         given_going (effect_of st m page c) x s (sym (ap taken_said h) ∙ said) ∙ ap (going_by (came_by (effect_of st m page c) j)) state ∙ ap there e

@@ -53,7 +53,7 @@ module _ (m : Mem) (pages : List ℕ) (cs : List Change) (i : ℕ) (st : SyncSta
       ∙ ap (λ (y : Mem). then (change_at m pages (get_or cs i no_change) i st).came (change_at m pages (get_or cs i no_change) i st).state y pages (drop (i + 1) cs) (i + 1)) (sym f)
 
   -- it goes on
-  pub goes_at : (s : SyncState) → on s ≡ change_going m pages (get_or cs i no_change) i st → goes_on m pages (drop i cs) i st ≡ goes_on x pages (drop (i + 1) cs) (i + 1) s
+  pub goes_at : (s : SyncState) → on s ≡ change_going m pages (get_or cs i no_change) i (on st) → goes_on m pages (drop i cs) i st ≡ goes_on x pages (drop (i + 1) cs) (i + 1) s
   goes_at s e = at ∙ go (change_at m pages (get_or cs i no_change) i st).came (change_at m pages (get_or cs i no_change) i st).state e
     where
       go : (k : Came) (q : SyncState) → on s ≡ going_by k q → then k q x pages (drop (i + 1) cs) (i + 1) ≡ goes_on x pages (drop (i + 1) cs) (i + 1) s
@@ -61,7 +61,7 @@ module _ (m : Mem) (pages : List ℕ) (cs : List Change) (i : ℕ) (st : SyncSta
       go (refused_at j k) q e = absurd cc
 
   -- it stops
-  pub stops_at : (e : SyncRefusal) → run_said (Err e) ≡ change_going m pages (get_or cs i no_change) i st → goes_on m pages (drop i cs) i st ≡ (run_said (Err e), x)
+  pub stops_at : (e : SyncRefusal) → run_said (Err e) ≡ change_going m pages (get_or cs i no_change) i (on st) → goes_on m pages (drop i cs) i st ≡ (run_said (Err e), x)
   stops_at e h = at ∙ go e (change_at m pages (get_or cs i no_change) i st).came (change_at m pages (get_or cs i no_change) i st).state h
     where
       go : (e : SyncRefusal) (k : Came) (q : SyncState) → run_said (Err e) ≡ going_by k q → then k q x pages (drop (i + 1) cs) (i + 1) ≡ (run_said (Err e), x)

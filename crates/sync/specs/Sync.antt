@@ -186,12 +186,19 @@ sync_writer n m pages cs start w =
     (writer_after (came n m pages cs start).came (came n m pages cs start).state (left n m pages cs start) w)
 
 -- ---- what each part of a sync promises
--- change j of a sync that goes on
-abbrev pub change_going : Mem → List ℕ → Change → ℕ → SyncState → Going
-change_going m pages c j st = going_by (change_at m pages c j st).came (change_at m pages c j st).state
+-- change j of a sync that goes on; one that was refused stays as it is, and leaves all
+abbrev pub change_going : Mem → List ℕ → Change → ℕ → Going → Going
+change_going m pages c j (on st) = going_by (change_at m pages c j st).came (change_at m pages c j st).state
+change_going m pages c j (unbegun k) = unbegun k
+change_going m pages c j (stopped i k) = stopped i k
 
-abbrev pub ChangePromise : Mem → List ℕ → Change → ℕ → SyncState → Result SyncState SyncRefusal → Mem → Type 0
-ChangePromise m pages c j st r after = (run_said r ≡ change_going m pages c j st) × (after ≡ change_mem m pages c j st)
+abbrev pub change_left : Mem → List ℕ → Change → ℕ → Going → Mem
+change_left m pages c j (on st) = change_mem m pages c j st
+change_left m pages c j (unbegun k) = m
+change_left m pages c j (stopped i k) = m
+
+abbrev pub ChangePromise : Mem → List ℕ → Change → ℕ → Result SyncState SyncRefusal → Result SyncState SyncRefusal → Mem → Type 0
+ChangePromise m pages c j before r after = (run_said r ≡ change_going m pages c j (run_said before)) × (after ≡ change_left m pages c j (run_said before))
 
 -- the start of a sync of so many changes: its answer, the marks and the log after it; and the widths of what its log starts with
 abbrev pub start_answer : Answer (Unit {0}) → SyncState → Answer SyncState

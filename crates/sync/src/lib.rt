@@ -269,8 +269,8 @@ fn page_at(pages: &[u8], j: usize) -> &[u8]
     &pages[..0]
 }
 
-// Change j of a sync, whose page is the j-th of the lent pages: the state for the next. What the types say of the
-// change's parts is handed out.
+// Change j of a sync, whose page is the j-th of the lent pages: how the sync goes after it. One that was refused stays as
+// it is, and leaves all. What the types say of the change's parts is handed out.
 pub fn change_at(
     tags: &mut [u8],
     marks: &mut [u8],
@@ -279,11 +279,14 @@ pub fn change_at(
     pages: &[u8],
     c: Change,
     j: usize,
-    st: SyncState,
+    run: Result<SyncState, SyncRefusal>,
 ) -> Result<SyncState, SyncRefusal>
-    ensures goes { ChangePromise (mem_of tags.old marks.old cells.old log.old) pages.now c j st result (mem_of tags.new marks.new cells.new log.new) }
+    ensures goes { ChangePromise (mem_of tags.old marks.old cells.old log.old) pages.now c j run result (mem_of tags.new marks.new cells.new log.new) }
     ensures wide { Wide c }
 {
+    let Ok(st) = run else {
+        return run;
+    };
     let mut state = st;
     let taken = step(tags, marks, cells, log, page_at(pages, j), c, &mut state);
     match taken {
@@ -340,7 +343,7 @@ fn all_changes(
 {
     let mut st = begin_sync(tags, marks, log, pages, changes.len(), start)?;
     for (j, c) in changes.iter().enumerate() {
-        st = change_at(tags, marks, cells, log, pages, *c, j, st)?;
+        st = change_at(tags, marks, cells, log, pages, *c, j, Ok(st))?;
     }
     Ok(st)
 }
