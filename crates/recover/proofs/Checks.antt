@@ -2,14 +2,14 @@
 use mathlib.Core.Path.{◌≡◌, refl, sym, ap, ap₂, ◌∙◌}
 use mathlib.Core.Bool.{Bool, cond, ◌&&◌}
 use mathlib.Core.List.{List}
-use Prim.Native.Nat.{ℕ, ◌+◌, ◌*◌, ◌≤◌, ◌<◌, zero-le}
-use native.Mathlib.Nat.{zero-add, add_assoc}
+use Prim.Native.Nat.{ℕ, ◌+◌, ◌*◌, ◌≤◌, ◌<◌}
+use native.Mathlib.Nat.{add_assoc}
 use native.Mathlib.Omega.{arith}
 use borrow.Author.Tests.{lt-ltb, le-ltb}
 use Rattle.std.specs.Prelude.{Ok}
 use Rattle.answers.specs.Answers.{Answer, given, refused}
 use Rattle.blocks.specs.Blocks.{le, block}
-use Rattle.wal.specs.Log.{Entry, clear, update, mark_size, start_size}
+use Rattle.wal.specs.Log.{Entry, clear, update, mark_size}
 use Rattle.wal.specs.Reader.{edition_at, diff_at, nodes_from, update_of, next, next_by, Reading, stop_at, and_then, read_from, read_log}
 use Rattle.wal_read.specs.Head.{the_end, a_refusal, head_of, head_said}
 use Rattle.wal_read.specs.declared.Head.{Head}
@@ -25,9 +25,6 @@ pub record CheckState (rule : AfterEnd) (n : ℕ) (log : List ℕ) (at updates :
   pub stop : (read_log rule log).stop ≡ (read_from rule (edition_at log) log at).stop
   pub count : updates_in (read_log rule log).entries ≡ updates + updates_in (read_from rule (edition_at log) log at).entries
   pub few : updates ≤ at
-
-pub check_start : (rule : AfterEnd) (n : ℕ) (log : List ℕ) → CheckState rule n log (start_size (edition_at log)) 0
-check_start rule n log = record { inside = refl; stop = refl; count = sym (zero-add (updates_in (read_log rule log).entries)); few = zero-le }
 
 module _ (rule : AfterEnd) (n : ℕ) (log : List ℕ) (at updates : ℕ) (st : CheckState rule n log at updates) where
   -- an entry inside the table

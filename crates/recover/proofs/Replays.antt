@@ -1,5 +1,5 @@
 -- Replay's tests, one after the other; and the image that an answer leaves. Assumes nothing.
-use mathlib.Core.Path.{◌≡◌, refl, sym, ap, ap₂, ◌∙◌}
+use mathlib.Core.Path.{◌≡◌, refl, sym, ap, ◌∙◌}
 use mathlib.Core.Bool.{Bool, true, false, cond}
 use mathlib.Core.List.{List}
 use Prim.Native.Nat.{ℕ}
@@ -36,13 +36,6 @@ module _ (rule : AfterEnd) (n : ℕ) (log : List ℕ) (s : ℕ) (want : Expected
         go : (c : Answer (Unit {0})) → by_sync false c ≡ given stale
         go (given u) = refl
         go (refused m) = refl
-
-    module _ (same : s ≡ want.sync) where
-      pub bad_entry : (k : ℕ) → check_answer rule n log hashes ≡ refused k → refused k ≡ after_start (given s) log want (check_answer rule n log hashes)
-      bad_entry k e = sym (in_store ∙ ap₂ by_sync (eq-eqb s want.sync same) e)
-
-      pub all_good : check_answer rule n log hashes ≡ given tt → given applied ≡ after_start (given s) log want (check_answer rule n log hashes)
-      all_good e = sym (in_store ∙ ap₂ by_sync (eq-eqb s want.sync same) e)
 
 module _ (rule : AfterEnd) (n image : ℕ) (log : List ℕ) (want : Expected) (hashes : ℕ) where
   abbrev began : Answer Did

@@ -24,13 +24,6 @@ use Rattle.wal.specs.declared.Edition.TheVariants.{One, Two}
 pub edition_two_lem : (log : List ℕ) → get_or log 0 0 ≡ 0xB2 → edition_at log ≡ Two
 edition_two_lem log e = ap (λ (b : Bool). cond b Two One) (eq-eqb (get_or log 0 0) 0xB2 e)
 
-pub edition_one_lem : (log : List ℕ) → (get_or log 0 0 ≡ 0xB2 → ⊥) → edition_at log ≡ One
-edition_one_lem log n = ap (λ (b : Bool). cond b Two One) (ne_eqb (get_or log 0 0) 0xB2 n)
-
-pub edition_none : (log : List ℕ) → length log ≤ 0 → edition_at log ≡ One
-edition_none [] h = refl
-edition_none (b ∷ bs) h = absurd (omega arith)
-
 -- ---- the start: "5, then 6 for an empty log, 7"
 module _ (log : List ℕ) where
   pub start_pages : (length log % 4096 ≡ 0 → ⊥) → start_of log ≡ refused 5
@@ -115,18 +108,12 @@ module _ (log : List ℕ) (at : ℕ) (here : at < length log) where
   within : leb (at + 1) (length log) ≡ true
   within = le-leb (at + 1) (length log) (omega arith)
 
-  pub tag_one : tag_at One log at ≡ given (get_or log at 0)
-  tag_one = simp within
-
   -- "For a mark whose first byte isn't 0xB2 the number is 8, at the log's last byte too; a 0xB2 as the last byte there is 6"
   pub tag_bare : (get_or log at 0 ≡ 0xB2 → ⊥) → tag_at Two log at ≡ refused 8
   tag_bare n = simp (within, ne_eqb (get_or log at 0) 0xB2 n)
 
   pub tag_cut : get_or log at 0 ≡ 0xB2 → length log - at < 2 → tag_at Two log at ≡ refused 6
   tag_cut e h = simp (within, eq-eqb (get_or log at 0) 0xB2 e, lt-leb (at + 2) (length log) (omega arith))
-
-  pub tag_two : get_or log at 0 ≡ 0xB2 → 2 ≤ length log - at → tag_at Two log at ≡ given (get_or log (at + 1) 0)
-  tag_two e h = simp (within, eq-eqb (get_or log at 0) 0xB2 e, le-leb (at + 2) (length log) (omega arith))
 
 -- ---- what stands after the mark of a tag, by the tests that find it
 module _ (log : List ℕ) (p : ℕ) where

@@ -1,10 +1,10 @@
 -- The nodes of an update, and the table that has them in front. Assumes nothing.
 use mathlib.Core.Path.{◌≡◌, refl, sym, ap, ap₂, ◌∙◌}
 use mathlib.Core.List.{List, [], ◌∷◌, ◌++◌}
-use Prim.Native.Nat.{ℕ, zero, suc, ◌+◌, ◌-◌, ◌*◌, ◌≤◌, ◌<◌}
+use Prim.Native.Nat.{ℕ, zero, suc, ◌+◌, ◌-◌, ◌*◌, ◌<◌}
 use native.Mathlib.Omega.{arith}
 use native.Mathlib.Numerals.{add-one}
-use lib.ListN.{length, get_or, set, replicate, length-append, length-replicate, get_or-append}
+use lib.ListN.{length, set, replicate, length-append}
 use lib.Seq.{set_at, append_snoc}
 use Rattle.blocks.specs.Blocks.{block}
 use Rattle.wal.specs.Reader.{nodes_from}
@@ -48,12 +48,3 @@ rows_turn log p c t n e f h =
     ∙ rows_snoc (nodes_from log p c) n (omega arith)
     ∙ ap (λ (x : List ℕ). rows (nodes_from log p c ++ (x ∷ []))) f
     ∙ ap rows (sym (nodes-suc log p c) ∙ ap (nodes_from log p) (sym (add-one c)))
-
--- ---- what the table holds: 126 rows, the nodes first
-pub rows-length : (ns : List (List ℕ)) → length ns ≤ 126 → length (rows ns) ≡ 126
-unfolding rows
-rows-length ns h = omega (arith, length-append ns (replicate (126 - length ns) (replicate 32 0)), length-replicate {A = List ℕ} (126 - length ns) (replicate 32 0))
-
-pub rows_node : (ns : List (List ℕ)) (i : ℕ) → i < length ns → get_or (rows ns) i [] ≡ get_or ns i []
-unfolding rows
-rows_node ns i h = get_or-append ns (replicate (126 - length ns) (replicate 32 0)) [] i h

@@ -4,7 +4,7 @@
 // name ends with `_tolerant`. `WalBlobReader` holds log, position and that, and what the log's start answered.
 #![tactic(auto)]
 
-ghost use Rattle.std.specs.Prelude.{◌≡◌, ◌+◌, ◌*◌, ◌≤◌, length, Result, Ok, IfOk};
+ghost use Rattle.std.specs.Prelude.{◌≡◌, ◌+◌, ◌*◌, ◌≤◌, length, IfOk};
 ghost use Rattle.answers.specs.Answers.{answer_of, done_of};
 ghost use Rattle.blocks.specs.Blocks.{block};
 ghost use Rattle.page_diff.specs.Diff.{read_answer, read_words};
