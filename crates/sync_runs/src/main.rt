@@ -152,7 +152,7 @@ fn changed(
 ) -> Result<SyncState, SyncRefusal> {
     let mut st = sync::begin_sync(&tags[..], marks, log, pages, changes.len(), start)?;
     for (j, c) in changes.iter().enumerate() {
-        st = sync::change_at(tags, marks, cells, log, pages, *c, j, st)?;
+        st = sync::change_at(tags, marks, cells, log, pages, *c, j, Ok(st))?;
     }
     Ok(st)
 }

@@ -65,7 +65,7 @@ fn changed(
     let pages = part(told, 4096 * count);
     let mut st = sync::begin_sync(&tags[..], marks, log, pages, count, start)?;
     for j in 0..count {
-        st = sync::change_at(tags, marks, cells, log, pages, change(told, j), j, st)?;
+        st = sync::change_at(tags, marks, cells, log, pages, change(told, j), j, Ok(st))?;
     }
     Ok(st)
 }
