@@ -645,7 +645,7 @@ pub extern "C" fn bitbox_diff_join(lo: u64, hi: u64, lo2: u64, hi2: u64) -> Diff
 
 // The nodes of a page's marked slots, by value: 2, 4. (A match and no `unwrap_or_else`, which has three tables of nodes
 // on the stack in place of one.)
-#[tactic(auto, using(page_diff::proofs::PackLaws::packed_refused))]
+#[tactic(auto, unfolding(page_diff::specs::Pack::table_of))]
 #[unsafe(no_mangle)]
 pub extern "C" fn bitbox_pack(lo: u64, hi: u64, page: &[u8]) -> PackAnswer
     ensures { (result.refusal ≡ refusal_of (pack_answer (pair lo hi) page.now)) × (result.packed ≡ packed_of (pair lo hi) page.now) }
