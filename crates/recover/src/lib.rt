@@ -294,7 +294,7 @@ fn check_started(
     if !of_store(log, seed) {
         return Err(Refusal::OtherStore);
     }
-    if found != want.sync as u64 {
+    if found != u64::from(want.sync) {
         return Ok(Recovered::Stale);
     }
     check_log(log, n, hashes, rule)?;

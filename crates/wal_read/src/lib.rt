@@ -87,7 +87,7 @@ pub fn set(log: &[u8]) -> Result<u64, Refusal>
     if log[body - 1] != wal::WAL_ENTRY_TAG_START {
         return Err(Refusal::NoStart);
     }
-    Ok(blocks::read_u32(log, body) as u64)
+    Ok(u64::from(blocks::read_u32(log, body)))
 }
 
 // The diff of the update whose body is at `body`, or a refusal of it.

@@ -23,5 +23,5 @@ pub returns : goal.returns
 returns c =
     let log : List ℕ = c.args.log.now in
     let size : c.mark_size-body.result ≡ mark_size (edition_at log) = c.mark_size-body.ensures ∙ ap mark_size c.edition_of.ensures in
-    ap given (c.read_u32.ensures ∙ ap (λ (m : ℕ). le (block 4 log m)) size)
+    ap given (c.from.ensures ∙ c.read_u32.ensures ∙ ap (λ (m : ℕ). le (block 4 log m)) size)
     ∙ sym (start_given log c.if-log-ne0.false c.if-log-eq0.false (sym (ap (λ (m : ℕ). get_or log (m - 1) 0) size) ∙ c.if-log-body-ne-WAL_ENTRY_TAG_START.false))
