@@ -205,7 +205,7 @@ pub struct Audited {
 
 // ---- from the proved crates' answers to these, and back
 // Each is a `From`. What crosses with something beside the answer, as a position or the state after a call, has a
-// function `of_..` of both, since a `From` takes one value.
+// function `of_..` of both, since a `From` takes one value. (A `usize` goes over by `as`: it has no `From` to `u64`.)
 
 // A refusal, which has no value.
 fn refused(why: Refusal) -> Answer
@@ -509,8 +509,8 @@ impl From<Result<rehash::Marker, Refusal>> for Marker {
         match r {
             Ok(m) => Marker {
                 refusal: 0,
-                old: m.old as u64,
-                new: m.new as u64,
+                old: u64::from(m.old),
+                new: u64::from(m.new),
             },
             Err(why) => Marker {
                 refusal: numbers::refusal_number(why),
