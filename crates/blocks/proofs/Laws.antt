@@ -1,6 +1,5 @@
 -- The laws of little-endian numbers, of a block read, of bytes put and of a tabulated list, over any width. Assumes nothing.
 use mathlib.Core.Path.{◌≡◌, refl, sym, ap, ap₂, ◌∙◌, subst}
-use mathlib.Core.Bool.{Bool, true, false, cond}
 use mathlib.Core.List.{List, [], ◌∷◌, ◌++◌, append_assoc, append-nil}
 use mathlib.Core.Logic.{◌⊎◌, ⊎_elim}
 use Prim.Native.Nat.{ℕ, zero, suc, ◌+◌, ◌-◌, ◌*◌, ◌/◌, ◌%◌, ◌^◌, ◌≤◌, ◌<◌}
@@ -12,6 +11,8 @@ use lib.Arith.{mod-mul}
 use lib.ListN.{length, get_or, take, drop, replicate, length-append, length-drop, length-replicate, get_or-replicate, drop_of_length-le, get_or-append}
 use lib.Seq.{take_at, drop_at, drop-drop, length-take-le, take-length, get_or-take, get_or-drop, get_or-append-add, ext_get_or, paste, length-paste}
 use borrow.Author.Tests.{le-leb, lt-leb}
+use lib.Dec.{leb}
+use Rattle.std.proofs.lemmas.Bool.{cond-true, cond-false}
 use Rattle.blocks.specs.Blocks.{le, bytes_of, block, put, tabulate}
 
 -- ---- numbers and their bytes
@@ -57,33 +58,15 @@ bytes_of-le (b ∷ bs) h =
     let rest : (b + 256 * le bs) / 256 ≡ le bs = omega arith in
     ap₂ (λ (x : ℕ) (xs : List ℕ). x ∷ xs) first (ap (bytes_of (length bs)) rest ∙ bytes_of-le bs (λ i l. h (suc i) (omega arith)))
 
--- the byte at i, and the number that the bytes after it are; past the end both are 0
-pub le-drop : (bs : List ℕ) (i : ℕ) → le (drop i bs) ≡ get_or bs i 0 + 256 * le (drop (suc i) bs)
-le-drop [] zero = refl
-le-drop [] (suc i) = refl
-le-drop (b ∷ bs) zero = refl
-le-drop (b ∷ bs) (suc i) = le-drop bs i
-
-pub le_past : (bs : List ℕ) (n : ℕ) → length bs ≤ n → le (drop n bs) ≡ 0
-le_past bs n h = ap le (drop_of_length-le bs {i = n} h)
-
--- ---- what a test chooses
-
-chosen : {a : Bool} (x y : List ℕ) → a ≡ true → cond a x y ≡ x
-chosen x y e = ap (λ (b : Bool). cond b x y) e
-
-left_out : {a : Bool} (x y : List ℕ) → a ≡ false → cond a x y ≡ y
-left_out x y e = ap (λ (b : Bool). cond b x y) e
-
 -- ---- a block
 
 pub block_at : (k : ℕ) (s : List ℕ) (at : ℕ) → at + k ≤ length s → block k s at ≡ take k (drop at s)
 unfolding block
-block_at k s at h = chosen (take k (drop at s)) (replicate k 0) (le-leb (at + k) (length s) h)
+block_at k s at h = cond-true (leb (at + k) (length s)) (take k (drop at s)) (replicate k 0) (le-leb (at + k) (length s) h)
 
 pub block_short : (k : ℕ) (s : List ℕ) (at : ℕ) → length s < at + k → block k s at ≡ replicate k 0
 unfolding block
-block_short k s at h = left_out (take k (drop at s)) (replicate k 0) (lt-leb (at + k) (length s) h)
+block_short k s at h = cond-false (leb (at + k) (length s)) (take k (drop at s)) (replicate k 0) (lt-leb (at + k) (length s) h)
 
 pub block-length : (k : ℕ) (s : List ℕ) (at : ℕ) → length (block k s at) ≡ k
 block-length k s at = go (dec_le (at + k) (length s))
@@ -119,11 +102,11 @@ le-block_bound k s at b =
 
 pub put_fits : (s : List ℕ) (at : ℕ) (bs : List ℕ) → at + length bs ≤ length s → put s at bs ≡ take at s ++ bs ++ drop (at + length bs) s
 unfolding put
-put_fits s at bs h = chosen (take at s ++ bs ++ drop (at + length bs) s) s (le-leb (at + length bs) (length s) h)
+put_fits s at bs h = cond-true (leb (at + length bs) (length s)) (take at s ++ bs ++ drop (at + length bs) s) s (le-leb (at + length bs) (length s) h)
 
 pub put_short : (s : List ℕ) (at : ℕ) (bs : List ℕ) → length s < at + length bs → put s at bs ≡ s
 unfolding put
-put_short s at bs h = left_out (take at s ++ bs ++ drop (at + length bs) s) s (lt-leb (at + length bs) (length s) h)
+put_short s at bs h = cond-false (leb (at + length bs) (length s)) (take at s ++ bs ++ drop (at + length bs) s) s (lt-leb (at + length bs) (length s) h)
 
 -- what fits is pasted whole
 pub put_paste : (s : List ℕ) (at : ℕ) (bs : List ℕ) → at + length bs ≤ length s → put s at bs ≡ paste s at bs (length bs)
