@@ -1,5 +1,5 @@
 -- Sets of numbers: what an added number changes, what the empty set holds, and that a set is no more than its numbers. Assumes nothing.
-use mathlib.Core.Path.{◌≡◌, refl, sym, ap, ap₂, ◌∙◌, subst}
+use mathlib.Core.Path.{◌≡◌, refl, sym, ap, ap₂, ◌∙◌}
 use mathlib.Core.Bool.{Bool, true, false, ◌||◌, or_comm, or-false}
 use mathlib.Core.List.{List}
 use Prim.Native.Nat.{ℕ, zero, suc, ◌+◌, ◌*◌, ◌/◌, ◌%◌, ◌^◌, ◌≤◌, ◌<◌}
@@ -9,19 +9,12 @@ use native.Mathlib.Omega.{arith}
 use lib.Dec.{eqb}
 use lib.Bits.{bit_or}
 use lib.ListN.{length, get_or, length-set, length-replicate, get_or-replicate, get_or-eq_default}
-use lib.Pow.{pow-lt}
 use lib.Seq.{get_or-set_same, get_or-set_other, set_out, ext_get_or}
 use borrow.Author.Tests.{eq-eqb, ne_eqb, eqb-true, eqb-false}
 use Rattle.page_diff.specs.Diff.{digit, marked}
 use Rattle.page_diff.proofs.Digits.{digit_lt, digit_none, more_digits}
 use Rattle.page_diff.proofs.MarkLaws.{bit, bit_or_lem, bit-pow, off}
 use Rattle.bucket_set.specs.Numbers.{holds_in, with_number, none_of}
-
--- `1 << i` at 64 bits
-pub one_shifted : (i : ℕ) → i < 64 → 1 * 2 ^ i % 2 ^ 64 ≡ 2 ^ i
-one_shifted i l =
-    let e : 1 * 2 ^ i ≡ 2 ^ i = omega arith in
-    mod-eq_of_lt (subst (λ (n : ℕ). n < 2 ^ 64) (sym e) (pow-lt l)) ∙ e
 
 -- a word that is zero holds nothing
 zero_holds : (x i : ℕ) → x ≡ 0 → bit x i ≡ false
