@@ -133,7 +133,7 @@ impl Table<'_> {
         requires { b < self.now.n }
         ensures { result ≡ labelled self.now.image.now self.now.n (page_end self.now.image.now self.now.n b) b }
     {
-        let label = blocks::block_32(self.image, ht_file::page_start(self.n, b) + ID_AT);
+        let label = blocks::block::<32>(self.image, ht_file::page_start(self.n, b) + ID_AT);
         for j in 0..b {
             if meta_map::is_full(self.image[j]) {
                 if probe::ends_in(self.image, ht_file::page_start(self.n, j) + ID_AT, label) {

@@ -61,8 +61,8 @@ pub fn as_bytes(d: Diff) -> [u8; 16]
     ensures { result ≡ bytes_of_words d.words }
 {
     let mut bytes = [0; 16];
-    bytes[..8].copy_from_slice(&blocks::u64_bytes(d.words[0]));
-    bytes[8..].copy_from_slice(&blocks::u64_bytes(d.words[1]));
+    blocks::write_u64(&mut bytes, 0, d.words[0]);
+    blocks::write_u64(&mut bytes, 8, d.words[1]);
     bytes
 }
 
@@ -205,7 +205,7 @@ fn pack_nodes(d: Diff, page: &[u8]) -> [[u8; 32]; 126]
 {
     let mut nodes = [[0u8; 32]; 126];
     for (c, s) in marked_slots(d).enumerate() {
-        nodes[c] = blocks::block_32(page, 32 * s);
+        nodes[c] = blocks::block::<32>(page, 32 * s);
     }
     nodes
 }
@@ -216,7 +216,7 @@ fn put_marked_nodes(s: &mut [u8], at: usize, d: Diff, page: &[u8])
     ensures { s.new ≡ put s.old at (flat (map (node_at page.now) (slots d.words))) }
 {
     for (c, slot) in marked_slots(d).enumerate() {
-        blocks::put_32(s, at + 32 * c, blocks::block_32(page, 32 * slot));
+        blocks::put_block(s, at + 32 * c, blocks::block::<32>(page, 32 * slot));
     }
 }
 
@@ -302,6 +302,6 @@ fn unpack_nodes(d: Diff, nodes: &[[u8; 32]; 126], page: &mut [u8])
     ensures { page.new ≡ tabulate (unpacked_byte d.words nodes.now page.old) 4096 }
 {
     for (c, s) in marked_slots(d).enumerate() {
-        blocks::put_32(page, 32 * s, nodes[c]);
+        blocks::put_block(page, 32 * s, nodes[c]);
     }
 }

@@ -121,7 +121,7 @@ fn write_slots(page: &mut [u8], d: Diff, log: &[u8], from: usize)
     let mut left = d;
     // The slots are walked by `next_slot`, and c counts their nodes: there is no iterator to enumerate.
     while let Some((s, rest)) = page_diff::next_slot(left) {
-        let node = blocks::block_32(log, from + 32 * c);
+        let node = blocks::block::<32>(log, from + 32 * c);
         let a = 32 * s;
         let e = a + 32;
         write_node(&mut page[a..e], node);
@@ -136,10 +136,10 @@ fn apply_page(page: &mut [u8], log: &[u8], body: usize, count: usize)
     ensures { page.new ≡ page_by log.now body count page.old }
 {
     // The head has read the diff already, so it is not refused.
-    let d = page_diff::from_bytes(blocks::block_16(log, body + wal::DIFF_AT)).unwrap();
+    let d = page_diff::from_bytes(blocks::block::<16>(log, body + wal::DIFF_AT)).unwrap();
     write_slots(page, d, log, body + wal::NODES_AT);
-    let elided = blocks::block_8(log, body + wal::NODES_AT + 32 * count);
-    let id = blocks::block_32(log, body);
+    let elided = blocks::block::<8>(log, body + wal::NODES_AT + 32 * count);
+    let id = blocks::block::<32>(log, body);
     write_label(
         &mut page[page_diff::ELIDED_AT..page_diff::PAGE_SIZE],
         elided,
@@ -275,7 +275,7 @@ fn of_store(log: &[u8], seed: [u8; 16]) -> bool
 {
     match wal_read::edition_of(log) {
         Edition::One => true,
-        Edition::Two => blocks::same_16(wal_read::seed_of(log), seed),
+        Edition::Two => blocks::same_block(wal_read::seed_of(log), seed),
     }
 }
 

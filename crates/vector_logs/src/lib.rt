@@ -132,17 +132,17 @@ fn with_writer(r: Result<(), Refusal>, w: Writer) -> Words {
 
 // An update from a page, which ends in its id.
 fn page_update(w: In, log: &mut [u8], page: &[u8], state: &mut Writer) -> Result<(), Refusal> {
-    let id = blocks::block_32(page, 4064);
+    let id = blocks::block::<32>(page, 4064);
     wal_write::write_page_update(log, state, id, diff(w.e, w.f), page, w.d)
 }
 
 // The same from the page's nodes by value, with an entry past their count.
 fn packed_update(w: In, log: &mut [u8], page: &[u8], state: &mut Writer) -> Result<(), Refusal> {
     let d = diff(w.e, w.f);
-    let id = blocks::block_32(page, 4064);
+    let id = blocks::block::<32>(page, 4064);
     let mut nodes = nodes_by(d, page);
     nodes[125] = id;
-    let elided = blocks::block_8(page, 4056);
+    let elided = blocks::block::<8>(page, 4056);
     wal_write::write_update(log, state, id, d, nodes, w.g as usize, elided, w.d)
 }
 

@@ -30,7 +30,7 @@ fn change(told: &[u8], j: usize) -> Change
 {
     let at = 32768 + 40 * j;
     Change {
-        id: blocks::block_32(told, 4096 * j + 4064),
+        id: blocks::block::<32>(told, 4096 * j + 4064),
         hash: blocks::read_u64(told, at),
         diff: Diff {
             words: [

@@ -152,7 +152,7 @@ fn set_page(image: &mut [u8], page: usize, pattern: usize)
     requires { (page ≤ 3) × (pattern ≤ 16) }
 {
     let end = 8160 + 4096 * page;
-    blocks::put_32(image, end, [0xAB; 32]);
+    blocks::put_block(image, end, [0xAB; 32]);
     if (pattern >> page) % 2 == 0 {
         put(image, end + (7 * page + pattern) % 32, 0xAA);
     }
@@ -223,8 +223,8 @@ fn block_write(s: &mut [u8], at: usize, width: u64) {
     match width {
         4 => blocks::write_u32(s, at, 0),
         8 => blocks::write_u64(s, at, 0),
-        16 => blocks::put_16(s, at, [0; 16]),
-        _ => blocks::put_32(s, at, [0; 32]),
+        16 => blocks::put_block(s, at, [0; 16]),
+        _ => blocks::put_block(s, at, [0; 32]),
     }
 }
 

@@ -69,7 +69,7 @@ pub fn edition_of(log: &[u8]) -> Edition
 pub fn seed_of(log: &[u8]) -> [u8; 16]
     ensures { result ≡ seed_of log.now }
 {
-    blocks::block_16(log, wal::SEED_AT)
+    blocks::block::<16>(log, wal::SEED_AT)
 }
 
 // The sync number of a log of either edition, read when a reader is set on it: 5, 6 for an empty log, 7. The first
@@ -96,7 +96,7 @@ fn diff_at(log: &[u8], body: usize) -> Result<Diff, Refusal>
     ensures answer { done_of result ≡ read_answer (block 16 log.now (body + 32)) }
     ensures value { IfOk result (λ d. d.words ≡ read_words (block 16 log.now (body + 32))) }
 {
-    page_diff::from_bytes(blocks::block_16(log, body + wal::DIFF_AT))
+    page_diff::from_bytes(blocks::block::<16>(log, body + wal::DIFF_AT))
 }
 
 // The tag of the mark at `at`: 6 where the log ends before it, 8 in edition two where 0xB2 is missing.
@@ -198,7 +198,7 @@ fn nodes_at(log: &[u8], from: usize, count: usize) -> [[u8; 32]; 126]
 {
     let mut nodes = [[0u8; 32]; 126];
     for c in 0..count {
-        nodes[c] = blocks::block_32(log, from + 32 * c);
+        nodes[c] = blocks::block::<32>(log, from + 32 * c);
     }
     nodes
 }
@@ -231,11 +231,11 @@ pub fn entry_by(log: &[u8], at: usize, edition: Edition, rule: AfterEnd) -> WalE
             },
         ) => {
             let body = at + wal::mark_size(edition);
-            let id = blocks::block_32(log, body);
+            let id = blocks::block::<32>(log, body);
             // The head has read the diff already, so it is not refused.
             let diff = diff_at(log, body).unwrap();
             let packed = page_diff::pack_up(nodes_at(log, body + wal::NODES_AT, count), count);
-            let elided = blocks::block_8(log, body + wal::NODES_AT + 32 * count);
+            let elided = blocks::block::<8>(log, body + wal::NODES_AT + 32 * count);
             WalEntry {
                 what: Ok(What::Update(bucket)),
                 id,

@@ -66,7 +66,7 @@ fn put_start(log: &mut [u8], start: Start)
     put_mark(log, 0, edition, wal::WAL_ENTRY_TAG_START);
     blocks::write_u32(log, wal::mark_size(edition), start.sync);
     if let Edition::Two = edition {
-        blocks::put_16(log, wal::SEED_AT, seed);
+        blocks::put_block(log, wal::SEED_AT, seed);
     }
 }
 
@@ -116,8 +116,8 @@ fn put_head(log: &mut [u8], at: usize, edition: Edition, id: [u8; 32], d: Diff)
 {
     let body = at + wal::mark_size(edition);
     put_mark(log, at, edition, wal::WAL_ENTRY_TAG_UPDATE);
-    blocks::put_32(log, body, id);
-    blocks::put_16(log, body + wal::DIFF_AT, page_diff::as_bytes(d));
+    blocks::put_block(log, body, id);
+    blocks::put_block(log, body + wal::DIFF_AT, page_diff::as_bytes(d));
 }
 
 // The first `held` nodes of a table.
@@ -126,7 +126,7 @@ fn put_nodes(log: &mut [u8], at: usize, nodes: &[[u8; 32]; 126], held: usize)
     ensures { (log.new ≡ put log.old at (flat (take held nodes.now))) × (length (flat (take held nodes.now)) ≡ 32 * held) × Rows nodes.now held }
 {
     for (c, n) in nodes[..held].iter().enumerate() {
-        blocks::put_32(log, at + 32 * c, *n);
+        blocks::put_block(log, at + 32 * c, *n);
     }
 }
 
@@ -136,7 +136,7 @@ fn put_tail(log: &mut [u8], at: usize, elided: [u8; 8], bucket: u64)
     ensures { (log.new ≡ put log.old at (elided ++ bytes_of 8 bucket)) × (length elided ≡ 8) }
 {
     let bucket_at = at + 8;
-    blocks::put_8(log, at, elided);
+    blocks::put_block(log, at, elided);
     blocks::write_u64(log, bucket_at, bucket);
 }
 
@@ -224,7 +224,7 @@ pub fn write_page_update(
     put_tail(
         log,
         at + (size - TAIL_SIZE),
-        blocks::block_8(page, page_diff::ELIDED_AT),
+        blocks::block::<8>(page, page_diff::ELIDED_AT),
         bucket,
     );
     *w = Writer::Open(at + size, edition);

@@ -59,7 +59,7 @@ loop-c-preserved c =
     let p = table_turn c.args.page.now (slots ws) c.loop-c.nodes k s c.loop-c.invariant.table (turn_at ws ls ms k s walk steps.0) (on turn) (omega (arith, few turn, steps.1)) in
     record {
       walk = turn_step ws ls ms k s walk steps.0 c.next.new.self.count steps.2;
-      table = cc (p, c.block_32.ensures, steps.1, steps.2);
+      table = cc (p, c.block.ensures, steps.1, steps.2);
     }
 
 pub returns : goal.returns

@@ -57,10 +57,10 @@ loop-c-preserved c =
     let steps = c.in-Some.ensures.steps in
     record {
       walk = turn_step ws ls ms k i walk steps.0 c.next.new.self.count steps.2;
-      nodes = subst (λ (n : ℕ). Nodes c.args.s.now c.args.at (map (node_at c.args.page.now) (slots ws)) c.put_32.new.s n) (sym steps.2)
+      nodes = subst (λ (n : ℕ). Nodes c.args.s.now c.args.at (map (node_at c.args.page.now) (slots ws)) c.put_block.new.s n) (sym steps.2)
           (page_turn c.args.s.now c.args.at c.args.page.now (slots ws) c.loop-c.s k i c.loop-c.invariant.nodes (turn_at ws ls ms k i walk steps.0)
-          (turn_on ws ls ms k i walk steps.0) (omega (arith, on turn, steps.1, c.requires.1)) c.put_32.new.s
-          (c.put_32.ensures.0 ∙ ap (λ (n : List ℕ). put c.loop-c.s (c.args.at + 32 * c.in-Some.c) n) c.block_32.ensures
+          (turn_on ws ls ms k i walk steps.0) (omega (arith, on turn, steps.1, c.requires.1)) c.put_block.new.s
+          (c.put_block.ensures.0 ∙ ap (λ (n : List ℕ). put c.loop-c.s (c.args.at + 32 * c.in-Some.c) n) c.block.ensures
           ∙ ap (λ (n : ℕ). put c.loop-c.s (c.args.at + 32 * n) (node_at c.args.page.now i)) steps.1));
     }
 

@@ -62,10 +62,10 @@ loop-c-preserved c =
     let steps = c.in-Some.ensures.steps in
     record {
       walk = turn_step ws ls ms k s walk steps.0 c.next.new.self.count steps.2;
-      long = c.put_32.auto.s ∙ c.loop-c.invariant.long;
+      long = c.put_block.auto.s ∙ c.loop-c.invariant.long;
       bytes = λ j h.
-          ap (λ (l : List ℕ). get_or l j 0) c.put_32.ensures.0
-          ∙ put_turn ws ns c.args.page.now c.loop-c.page k s (turn_slot ws ls ms k s walk steps.0) (get_or ns c.in-Some.c []) (ap (λ (n : ℕ). get_or ns n []) steps.1) c.put_32.ensures.1
+          ap (λ (l : List ℕ). get_or l j 0) c.put_block.ensures.0
+          ∙ put_turn ws ns c.args.page.now c.loop-c.page k s (turn_slot ws ls ms k s walk steps.0) (get_or ns c.in-Some.c []) (ap (λ (n : ℕ). get_or ns n []) steps.1) c.put_block.ensures.1
           c.loop-c.invariant.long (low turn) c.loop-c.invariant.bytes j h
           ∙ ap (λ (n : ℕ). put_up_to ws ns c.args.page.now n j) (sym steps.2);
     }

@@ -22,10 +22,10 @@ returns c =
     let page : List ℕ = c.args.page.now in
     -- the diff that is read is the one that stands in the log
     let e : c.unwrap-d.result.words ≡ diff_at log at =
-    IfOk-at_ok (λ (d : Diff). d.words ≡ read_words c.block_16.result) c.unwrap-d.ensures c.from_bytes.ensures.value
-    ∙ ap read_words c.block_16.ensures ∙ read_words_lem (block 16 log (at + 32)) c.requires.1 in
-    let el : List ℕ = c.block_8-elided.result in
-    let id : List ℕ = c.block_32-id.result in
+    IfOk-at_ok (λ (d : Diff). d.words ≡ read_words c.block.result) c.unwrap-d.ensures c.from_bytes.ensures.value
+    ∙ ap read_words c.block.ensures ∙ read_words_lem (block 16 log (at + 32)) c.requires.1 in
+    let el : List ℕ = c.block-elided.result in
+    let id : List ℕ = c.block-id.result in
     let page1 : c.write_slots.new.page ≡ tabulate (unpacked_byte (diff_at log at) (nodes_from log (at + 48) k) page) 4096 =
     c.write_slots.ensures
     ∙ ap (λ (ws : List ℕ). tabulate (unpacked_byte ws (nodes_from log (at + 48) (count_of ws)) page) 4096) e
@@ -35,4 +35,4 @@ returns c =
     ∙ part-put 4056 4096 (tabulate (unpacked_byte (diff_at log at) (nodes_from log (at + 48) k) page) 4096) (el ++ id) (omega arith)
     (omega (arith, tabulate-length (unpacked_byte (diff_at log at) (nodes_from log (at + 48) k) page) 4096)) long
     ∙ page_done id (diff_at log at) (nodes_from log (at + 48) k) el page c.write_label.ensures.1 c.write_label.ensures.2
-    ∙ ap₂ (λ (x y : List ℕ). page_after x (diff_at log at) (nodes_from log (at + 48) k) y page) c.block_32-id.ensures c.block_8-elided.ensures
+    ∙ ap₂ (λ (x y : List ℕ). page_after x (diff_at log at) (nodes_from log (at + 48) k) y page) c.block-id.ensures c.block-elided.ensures

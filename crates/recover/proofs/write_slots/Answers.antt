@@ -19,7 +19,7 @@ loop-s-preserved c =
     let k : ℕ = c.loop-s.c in
     let s : ℕ = c.in-Some.s in
     let page : List ℕ = c.loop-s.page in
-    let node : List ℕ = c.block_32-node.result in
+    let node : List ℕ = c.block-node.result in
     let inv = c.loop-s.invariant in
     let below : s < 128 = c.in-Some.ensures.0 in
     let first = c.in-Some.ensures.1.0 in
@@ -32,7 +32,7 @@ loop-s-preserved c =
       long = ap length put_there ∙ put-length page (32 * s) node ∙ inv.long;
       bytes = λ j h.
           ap (λ (l : List ℕ). get_or l j 0) put_there
-          ∙ put_turn ws ns c.args.page.now page k s (walk_slot ws ls k s inv.walk first below) node (c.block_32-node.ensures ∙ sym (nodes_at_lem c.args.log.now c.args.from (count_of ws) k on)) c.write_node.ensures.1
+          ∙ put_turn ws ns c.args.page.now page k s (walk_slot ws ls k s inv.walk first below) node (c.block-node.ensures ∙ sym (nodes_at_lem c.args.log.now c.args.from (count_of ws) k on)) c.write_node.ensures.1
           inv.long low inv.bytes j h;
     }
 

@@ -60,9 +60,9 @@ pub returns-in-Ok-Update : goal.returns-in-Ok-Update
 returns-in-Ok-Update c =
     let a = c.args in
     let t = there _ _ _ _ _ _ _ _ c.in-Ok-Update.field-0-is c.in-Ok-Update.ensures in
-    update_taken a.rule a.edition a.log.now a.at c.in-Ok-Update.bucket c.in-Ok-Update.count c.in-Ok-Update.next _ t c.mark_size.result c.mark_size.ensures refl c.block_32-id.ensures
+    update_taken a.rule a.edition a.log.now a.at c.in-Ok-Update.bucket c.in-Ok-Update.count c.in-Ok-Update.next _ t c.mark_size.result c.mark_size.ensures refl c.block-id.ensures
     (IfOk-at_ok (λ (d : Diff). d.words ≡ read_words (block 16 a.log.now (a.at + c.mark_size.result + 32))) c.unwrap-diff.ensures c.diff_at.ensures.value)
-    (c.pack_up-packed.ensures ∙ ap (λ (ns : List (List ℕ)). packed_by ns c.in-Ok-Update.count) c.nodes_at.ensures) c.block_8-elided.ensures refl
+    (c.pack_up-packed.ensures ∙ ap (λ (ns : List (List ℕ)). packed_by ns c.in-Ok-Update.count) c.nodes_at.ensures) c.block-elided.ensures refl
 
 pub returns-in-Ok-End : goal.returns-in-Ok-End
 returns-in-Ok-End c =

@@ -7,4 +7,4 @@ pub loop-c-init : goal.loop-c-init
 loop-c-init c = rows_none c.args.log.now c.args.from
 
 pub loop-c-preserved : goal.loop-c-preserved
-loop-c-preserved c = rows_turn c.args.log.now c.args.from c.loop-c.c c.loop-c.nodes c.block_32.result c.loop-c.invariant c.block_32.ensures (omega arith)
+loop-c-preserved c = rows_turn c.args.log.now c.args.from c.loop-c.c c.loop-c.nodes c.block.result c.loop-c.invariant c.block.ensures (omega arith)

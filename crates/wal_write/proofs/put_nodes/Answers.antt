@@ -16,11 +16,11 @@ loop-c-preserved c =
     let k = c.loop-c.c in
     let l : length (take a.held a.nodes.now) ≡ a.held = length-take-le a.held a.nodes.now (omega (arith, c.requires.0, c.told-nodes)) in
     let row : get_or (take a.held a.nodes.now) k [] ≡ get_or a.nodes.now k [] = get_or-take a.held a.nodes.now k [] (omega (arith, l, c.loop-c-test.true)) in
-    let wide : length (get_or a.nodes.now k []) ≡ 32 = ap length (sym row) ∙ c.put_32.ensures.1 in
+    let wide : length (get_or a.nodes.now k []) ≡ 32 = ap length (sym row) ∙ c.put_block.ensures.1 in
     record {
       put_so_far =
-          table_turn a.log.now a.at a.nodes.now c.loop-c.log k c.loop-c.invariant.put_so_far c.put_32.new.s
-          (c.put_32.ensures.0 ∙ ap (λ (n : List ℕ). put c.loop-c.log (a.at + 32 * k) n) row) wide (omega (arith, l, c.loop-c-test.true, c.requires.1));
+          table_turn a.log.now a.at a.nodes.now c.loop-c.log k c.loop-c.invariant.put_so_far c.put_block.new.s
+          (c.put_block.ensures.0 ∙ ap (λ (n : List ℕ). put c.loop-c.log (a.at + 32 * k) n) row) wide (omega (arith, l, c.loop-c-test.true, c.requires.1));
       rows = below_more _ _ c.loop-c.invariant.rows wide;
     }
 

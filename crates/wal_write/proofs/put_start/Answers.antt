@@ -30,7 +30,7 @@ pub returns-in-Two : goal.returns-in-Two
 returns-in-Two c =
     let k = (goal.at.returns-in-Two c).After-write_u32 in
     let at : 6 ≡ c.mark_size.result + 4 = omega (arith, c.mark_size.ensures, ap mark_size c.in-Two.is) in (
-      c.put_16.ensures.0
+      c.put_block.ensures.0
           ∙ ap₂ (λ (n : ℕ) (e : List ℕ). put c.write_u32.new.s n e) at (sym (ap (λ (e : Edition). seed_part e c.args.start.seed) c.in-Two.is))
           ∙ whole k,
       wide k,

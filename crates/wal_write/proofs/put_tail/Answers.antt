@@ -9,7 +9,7 @@ returns c =
     let a = c.args in
     let bs : List ℕ = bytes_of 8 a.bucket in
     let long : length bs ≡ 8 = refl in
-    let wide : length a.elided ≡ 8 = c.put_8.ensures.1 in (
-      c.write_u64.ensures ∙ ap (λ (l : List ℕ). put l (a.at + 8) bs) c.put_8.ensures.0 ∙ put_then a.log.now a.at (a.at + 8) a.elided bs (omega arith) (omega (arith, c.requires)),
+    let wide : length a.elided ≡ 8 = c.put_block.ensures.1 in (
+      c.write_u64.ensures ∙ ap (λ (l : List ℕ). put l (a.at + 8) bs) c.put_block.ensures.0 ∙ put_then a.log.now a.at (a.at + 8) a.elided bs (omega arith) (omega (arith, c.requires)),
       wide,
     )

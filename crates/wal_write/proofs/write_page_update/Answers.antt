@@ -127,8 +127,8 @@ returns c =
     (page_tests log w ws page ∙ taken log w (eqb (length page) 4096) (reserved ws) (λ (e : Edition). update_size e n) (given tt) ed at c.in-Open.is (fit k) (plain k) (roomy past))
     (ap₂ (λ (x y : ℕ). open_at ed (at + (x + (64 + 32 * y)))) c.mark_size-mark.ensures c.count.ensures)
     (c.put_tail.ensures.0
-    ∙ ap (λ (y : ℕ). put c.put_page_nodes.new.s (at + (m + (64 + 32 * y) - 16)) (c.block_8.result ++ bytes_of 8 a.bucket)) c.count.ensures
-    ∙ ap (λ (e : List ℕ). put c.put_page_nodes.new.s (at + (m + (64 + 32 * n) - 16)) (e ++ bytes_of 8 a.bucket)) c.block_8.ensures
+    ∙ ap (λ (y : ℕ). put c.put_page_nodes.new.s (at + (m + (64 + 32 * y) - 16)) (c.block.result ++ bytes_of 8 a.bucket)) c.count.ensures
+    ∙ ap (λ (e : List ℕ). put c.put_page_nodes.new.s (at + (m + (64 + 32 * n) - 16)) (e ++ bytes_of 8 a.bucket)) c.block.ensures
     ∙ ap (λ (l : List ℕ). put l (at + (m + (64 + 32 * n) - 16)) (el ++ bytes_of 8 a.bucket)) (c.put_page_nodes.ensures ∙ nodes_plain c.put_head.new.log (at + m + 48) ws page (plain k) ∙ ap (λ (l : List ℕ). put l (at + m + 48) (flat ns)) c.put_head.ensures.0)
     ∙ put_update ed m c.mark_size-mark.ensures log at a.id ws c.put_head.ensures.1 ns el a.bucket n (page_nodes-length page (slots ws)) (block-length 8 page 4056) (fits past)) in
     (left.0, left.1, wide (goal.at.returns c).Start)

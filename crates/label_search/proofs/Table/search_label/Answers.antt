@@ -30,7 +30,7 @@ returns-then-ends_in c =
     let a = c.args in
     let j = c.loop-j.j in
     let l = page_end a.self.now.image.now a.self.now.n a.b in
-    let s = compared a.self.now.image.now a.self.now.n a.b c.args.self.now.fits c.requires c.page_start.result c.page_start.ensures c.block_32-label.result c.block_32-label.ensures
+    let s = compared a.self.now.image.now a.self.now.n a.b c.args.self.now.fits c.requires c.page_start.result c.page_start.ensures c.block-label.result c.block-label.ensures
     j c.page_start-then-is_full.result c.ends_in.result true c.loop-j-test.true c.page_start-then-is_full.ensures c.ends_in.ensures c.if-ends_in.true in
     sym (labelled_by a.self.now.image.now a.self.now.n l a.b j c.loop-j-test.true (sym c.if-is_full.ensures) (same_equal (page_end a.self.now.image.now a.self.now.n j) l s))
 
@@ -45,7 +45,7 @@ loop-j-preserved c =
     ∙ ap₂ ◌||◌ c.loop-j.invariant
     (elim c.if-is_full.branch [
       | then-is_full+else-ends_in w ↦ ap₂ ◌&&◌ (sym here ∙ w.if-is_full.true)
-          (compared a.self.now.image.now a.self.now.n a.b c.args.self.now.fits c.requires c.page_start.result c.page_start.ensures c.block_32-label.result c.block_32-label.ensures
+          (compared a.self.now.image.now a.self.now.n a.b c.args.self.now.fits c.requires c.page_start.result c.page_start.ensures c.block-label.result c.block-label.ensures
           j w.page_start-then-is_full.result w.ends_in.result false c.loop-j-test.true w.page_start-then-is_full.ensures w.ends_in.ensures w.if-ends_in.false)
       | else-is_full w ↦ ap (λ (t : Bool). t && other) (sym here ∙ w.if-is_full.false)
     ])
