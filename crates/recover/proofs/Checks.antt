@@ -97,3 +97,9 @@ module _ (rule : AfterEnd) (ed own : Edition) (log : List ℕ) (at : ℕ) (h : H
 
   pub end_read : h ≡ head.End → the_end ≡ head_of (next_by rule own log at)
   end_read e = seen head.End e
+
+-- a head that is no entry is the end
+pub is_end : (h : Head) → ((b p : ℕ) → h ≡ head.Clear b p → ⊥) → ((b c p : ℕ) → h ≡ head.Update b c p → ⊥) → h ≡ head.End
+is_end (head.Clear b p) f g = absurd (f b p refl)
+is_end (head.Update b c p) f g = absurd (g b c p refl)
+is_end head.End f g = refl

@@ -58,30 +58,28 @@ fn check_log(log: &[u8], n: usize, hashes: usize, rule: AfterEnd) -> Result<(), 
     // Each record tells where the next one stands, so there is no range to go over.
     loop {
         let head = wal_read::head_by(log, at, edition, rule)?;
-        match head {
-            Head::Clear { bucket, next } => {
-                if n as u64 <= bucket {
-                    return Err(Refusal::BucketOutside);
-                }
-                at = next;
+        if let Head::Clear { bucket, next } = head {
+            if n as u64 <= bucket {
+                return Err(Refusal::BucketOutside);
             }
-            Head::Update {
+            at = next;
+        } else {
+            let Head::Update {
                 bucket,
                 count: _,
                 next,
-            } => {
-                if n as u64 <= bucket {
-                    return Err(Refusal::BucketOutside);
-                }
-                updates += 1;
-                at = next;
-            }
-            Head::End => {
+            } = head
+            else {
                 if hashes != updates {
                     return Err(Refusal::LengthUnfit);
                 }
                 return Ok(());
+            };
+            if n as u64 <= bucket {
+                return Err(Refusal::BucketOutside);
             }
+            updates += 1;
+            at = next;
         }
     }
 }
@@ -161,33 +159,32 @@ fn apply_at(
     ensures { (stepped_said result ≡ step_answer rule n image.old edition log.now at) × (image.new ≡ step_image rule n image.old edition log.now at hash) }
 {
     let head = wal_read::head_by(log, at, edition, rule)?;
-    match head {
-        Head::Clear { bucket, next } => {
-            if n as u64 <= bucket {
-                return Err(Refusal::BucketOutside);
-            }
-            let b = bucket as usize;
-            write_tag(&mut image[b..b + 1], TOMBSTONE);
-            Ok(Stepped::Cleared(next))
+    if let Head::Clear { bucket, next } = head {
+        if n as u64 <= bucket {
+            return Err(Refusal::BucketOutside);
         }
-        Head::Update {
-            bucket,
-            count,
-            next,
-        } => {
-            if n as u64 <= bucket {
-                return Err(Refusal::BucketOutside);
-            }
-            let b = bucket as usize;
-            write_tag(&mut image[b..b + 1], meta_map::full_entry(hash));
-            let a = ht_file::page_start(n, b);
-            let e = a + PAGE_SIZE;
-            let body = next - (wal::UPDATE_BODY + 32 * count);
-            apply_page(&mut image[a..e], log, body, count);
-            Ok(Stepped::Updated(next))
-        }
-        Head::End => Ok(Stepped::End),
+        let b = bucket as usize;
+        write_tag(&mut image[b..b + 1], TOMBSTONE);
+        return Ok(Stepped::Cleared(next));
     }
+    let Head::Update {
+        bucket,
+        count,
+        next,
+    } = head
+    else {
+        return Ok(Stepped::End);
+    };
+    if n as u64 <= bucket {
+        return Err(Refusal::BucketOutside);
+    }
+    let b = bucket as usize;
+    write_tag(&mut image[b..b + 1], meta_map::full_entry(hash));
+    let a = ht_file::page_start(n, b);
+    let e = a + PAGE_SIZE;
+    let body = next - (wal::UPDATE_BODY + 32 * count);
+    apply_page(&mut image[a..e], log, body, count);
+    Ok(Stepped::Updated(next))
 }
 
 // Applies the entry at a position of a log of an edition to the image: a clear writes its bucket's tag, an update its

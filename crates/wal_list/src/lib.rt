@@ -132,28 +132,21 @@ fn filled(log: &[u8], at: usize, line: &mut [u8]) -> Line
     if at == 0 {
         return first_line(log, line);
     }
-    match wal_read::head_at_tolerant(log, at, wal_read::edition_of(log)) {
-        Ok(Head::Clear { bucket, next }) => Line::More {
-            len: put_line(line, at, b" clear ", bucket),
-            next,
-        },
-        Ok(
-            Head::Update {
-                bucket,
-                count,
-                next,
-            },
-        ) => Line::More {
-            len: put_update(line, at, bucket, count),
-            next,
-        },
-        Ok(Head::End) => Line::Last {
-            len: put_end(line, at),
-        },
-        Err(why) => Line::Last {
-            len: put_refused(line, at, why),
-        },
+    let read = wal_read::head_at_tolerant(log, at, wal_read::edition_of(log));
+    if let Err(why) = read {
+        let len = put_refused(line, at, why);
+        return Line::Last { len };
     }
+    if let Ok(Head::Clear { bucket, next }) = read {
+        let len = put_line(line, at, b" clear ", bucket);
+        return Line::More { len, next };
+    }
+    let Ok(Head::Update { bucket, count, next }) = read else {
+        let len = put_end(line, at);
+        return Line::Last { len };
+    };
+    let len = put_update(line, at, bucket, count);
+    Line::More { len, next }
 }
 
 // Fills in the line of the record at `at` (the start is at 0) and says how long it is and where the next

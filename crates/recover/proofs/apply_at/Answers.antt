@@ -16,11 +16,11 @@ use Rattle.wal_read.proofs.ReadLaws.{There}
 use Rattle.recover.specs.Places.{page_named, page_gives, page_after, stepped}
 use Rattle.recover.specs.Replay.{bucket_of}
 use Rattle.recover.specs.InnerPage.{page_by}
-use Rattle.recover.proofs.Checks.{there_bucket, there_entry, updated_there, clear_read, update_read, end_read}
+use Rattle.recover.proofs.Checks.{there_bucket, there_entry, updated_there, clear_read, update_read, end_read, is_end}
 use Rattle.recover.proofs.Parts.{part-put, set-put}
 use Rattle.recover.proofs.Steps.{step_outside, step_taken, step_end, step_refused, clear_image, update_image}
 use Rattle.recover.proofs.apply_at.Goals as goal
-use Rattle.recover.proofs.apply_at.Goals.{In-Update, Else-n-bucket-2, After-write_tag-in-Update, After-page_start-a}
+use Rattle.recover.proofs.apply_at.Goals.{In-Update, After-write_tag-2, After-page_start-a}
 
 -- the head is an update: so stands an update there, all of it
 there : (c : In-Update) → There c.args.rule c.args.edition c.args.log.now c.args.at c.in-Update.bucket c.in-Update.count c.in-Update.next
@@ -70,7 +70,7 @@ module _ (c : After-page_start-a) where
   tag_set = set c.args.image.now c.in-Update.bucket (full_tag c.args.hash)
 
   abbrev first : List ℕ
-  first = put_mid c.in-Update.bucket (c.in-Update.bucket + 1 - c.in-Update.bucket) c.args.image.now c.write_tag-in-Update.new.part
+  first = put_mid c.in-Update.bucket (c.in-Update.bucket + 1 - c.in-Update.bucket) c.args.image.now c.write_tag-2.new.part
 
   bounds : (1 ≤ c.args.n) × (c.args.n ≤ 1048576) × (length c.args.image.now ≡ image_length c.args.n)
   bounds = image_fits_facts c.args.n (length c.args.image.now) c.requires
@@ -84,13 +84,13 @@ module _ (c : After-page_start-a) where
   page-fits : page_start c.args.n c.in-Update.bucket + 4096 ≤ length c.args.image.now
   page-fits = omega (arith, bounds.2, inside)
 
-  tagged : put_mid c.in-Update.bucket (c.in-Update.bucket + 1 - c.in-Update.bucket) c.args.image.now c.write_tag-in-Update.new.part ≡ set c.args.image.now c.in-Update.bucket (full_tag c.args.hash)
+  tagged : put_mid c.in-Update.bucket (c.in-Update.bucket + 1 - c.in-Update.bucket) c.args.image.now c.write_tag-2.new.part ≡ set c.args.image.now c.in-Update.bucket (full_tag c.args.hash)
   tagged =
-      ap (put_mid b (b + 1 - b) image) (c.write_tag-in-Update.ensures ∙ ap (λ (v : ℕ). v ∷ []) c.full_entry.ensures)
+      ap (put_mid b (b + 1 - b) image) (c.write_tag-2.ensures ∙ ap (λ (v : ℕ). v ∷ []) c.full_entry.ensures)
       ∙ part-put b (b + 1) image (full_tag c.args.hash ∷ []) (omega arith) (omega (arith, here)) (omega arith)
       ∙ set-put image b (full_tag c.args.hash) here
 
-  tagged_long : length (put_mid c.in-Update.bucket (c.in-Update.bucket + 1 - c.in-Update.bucket) c.args.image.now c.write_tag-in-Update.new.part) ≡ length c.args.image.now
+  tagged_long : length (put_mid c.in-Update.bucket (c.in-Update.bucket + 1 - c.in-Update.bucket) c.args.image.now c.write_tag-2.new.part) ≡ length c.args.image.now
   tagged_long = ap length tagged ∙ length-set image b (full_tag c.args.hash)
 
   start-here : c.page_start-a.result ≡ page_start c.args.n c.in-Update.bucket
@@ -116,8 +116,8 @@ apply_page-requires c =
       omega (arith, t.within, body_is k),
     )
 
-pub returns-else-n-bucket : goal.returns-else-n-bucket
-returns-else-n-bucket c =
+pub returns-in-Clear : goal.returns-in-Clear
+returns-in-Clear c =
     let a = c.args in
     let b : ℕ = c.in-Clear.bucket in
     let image : List ℕ = a.image.now in
@@ -131,9 +131,9 @@ returns-else-n-bucket c =
           ∙ set-put image b 0x7F inside ∙ clear_image a.n b a.hash image inside ∙ taken.1,
     )
 
-pub returns-else-n-bucket-2 : goal.returns-else-n-bucket-2
-returns-else-n-bucket-2 c =
-    let k = (goal.at.returns-else-n-bucket-2 c).After-page_start-a in
+pub returns : goal.returns
+returns c =
+    let k = (goal.at.returns c).After-page_start-a in
     let t = stands k in
     let args = c.args in
     let log : List ℕ = args.log.now in
@@ -160,7 +160,8 @@ returns-else-n-bucket-2 c =
           ∙ ap (λ (x : Entry). stepped args.n (record { entry = x; hash = args.hash }) args.image.now) (sym (there_entry args.rule args.edition log args.at (b k) m c.in-Update.next t)) ∙ taken.1,
     )
 
-pub returns-in-End : goal.returns-in-End
-returns-in-End c =
+pub returns-in_default-head : goal.returns-in_default-head
+returns-in_default-head c =
     let a = c.args in
-    step_end a.rule a.n a.image.now a.edition a.log.now a.at a.hash c.requires (end_read a.rule a.edition a.edition a.log.now a.at c.in_ok-head.head c.in_ok-head.ensures refl c.in-End.is)
+    step_end a.rule a.n a.image.now a.edition a.log.now a.at a.hash c.requires
+    (end_read a.rule a.edition a.edition a.log.now a.at c.in_ok-head.head c.in_ok-head.ensures refl (is_end c.in_ok-head.head c.in_default.not-Clear c.in_default-head.not-Update))

@@ -10,7 +10,7 @@ use Rattle.wal.proofs.Records.{mark_some}
 use Rattle.wal_read.specs.Head.{head_of}
 use Rattle.wal_read.proofs.ReadLaws.{moves}
 use Rattle.recover.specs.Replay.{check_answer}
-use Rattle.recover.proofs.Checks.{CheckState, check_entry, check_outside, check_end, check_refused, there_bucket, there_one, clear_read, update_read, end_read}
+use Rattle.recover.proofs.Checks.{CheckState, check_entry, check_outside, check_end, check_refused, there_bucket, there_one, clear_read, update_read, end_read, is_end}
 use Rattle.recover.proofs.check_log.Goals as goal
 
 pub returns-in_err-head : goal.returns-in_err-head
@@ -93,12 +93,12 @@ pub returns-then-hashes-updates : goal.returns-then-hashes-updates
 returns-then-hashes-updates c =
     let a = c.args in
     let l = c.loop-head in
-    sym (check_end a.rule a.n a.log.now l.at l.updates l.invariant.state a.hashes (end_read a.rule _ _ a.log.now l.at c.in_ok-head.head c.in_ok-head.ensures l.invariant.by c.in-End.is)
+    sym (check_end a.rule a.n a.log.now l.at l.updates l.invariant.state a.hashes (end_read a.rule _ _ a.log.now l.at c.in_ok-head.head c.in_ok-head.ensures l.invariant.by (is_end c.in_ok-head.head c.in_default.not-Clear c.in_default-head.not-Update))
     ∙ simp (ne_eqb a.hashes l.updates c.if-hashes-updates.true))
 
-pub returns-in-End : goal.returns-in-End
-returns-in-End c =
+pub returns-in_default-head : goal.returns-in_default-head
+returns-in_default-head c =
     let a = c.args in
     let l = c.loop-head in
-    sym (check_end a.rule a.n a.log.now l.at l.updates l.invariant.state a.hashes (end_read a.rule _ _ a.log.now l.at c.in_ok-head.head c.in_ok-head.ensures l.invariant.by c.in-End.is)
+    sym (check_end a.rule a.n a.log.now l.at l.updates l.invariant.state a.hashes (end_read a.rule _ _ a.log.now l.at c.in_ok-head.head c.in_ok-head.ensures l.invariant.by (is_end c.in_ok-head.head c.in_default.not-Clear c.in_default-head.not-Update))
     ∙ simp (eq-eqb a.hashes l.updates c.if-hashes-updates.false))
