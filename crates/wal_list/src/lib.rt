@@ -141,7 +141,14 @@ fn filled(log: &[u8], at: usize, line: &mut [u8]) -> Line
         let len = put_line(line, at, b" clear ", bucket);
         return Line::More { len, next };
     }
-    let Ok(Head::Update { bucket, count, next }) = read else {
+    let Ok(
+        Head::Update {
+            bucket,
+            count,
+            next,
+        },
+    ) = read
+    else {
         let len = put_end(line, at);
         return Line::Last { len };
     };
