@@ -311,7 +311,7 @@ pub fn check_by(
     ensures { recovered_said result ≡ replay_tests rule n image_len log.now want hashes }
 {
     ht_file::check_image(n, image_len)?;
-    if log.len() == 0 {
+    if log.is_empty() {
         return Ok(Recovered::Nothing);
     }
     let found = wal_read::set(log)?;

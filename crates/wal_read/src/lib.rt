@@ -80,7 +80,7 @@ pub fn set(log: &[u8]) -> Result<u64, Refusal>
     if log.len() % wal::PAGE_SIZE != 0 {
         return Err(Refusal::LogNotPages);
     }
-    if log.len() == 0 {
+    if log.is_empty() {
         return Err(Refusal::LogCut);
     }
     let body = wal::mark_size(edition_of(log));

@@ -1,5 +1,6 @@
 -- Each test answers as the definition does. Assumes nothing.
-use Rattle.std.proofs.Common.{rules, ◌≡◌, ℕ, sym, ◌∙◌}
+use Rattle.std.proofs.Common.{rules, ◌≡◌, ℕ, length, sym, ◌∙◌}
+use borrow.Author.Tests.{eqb-true, eqb-false}
 use Rattle.answers.specs.Answers.{given, refused}
 use Rattle.answers.specs.Refusals.{number_of}
 use Rattle.ht_file.specs.Places.{image_fits}
@@ -15,21 +16,21 @@ returns-in_err-check_image c =
     let e = replay_unfit a.rule a.n a.image_len a.log.now a.want a.hashes k (sym c.in_err-check_image.ensures) in
     search rules
 
-pub returns-then-log-eq0 : goal.returns-then-log-eq0
-returns-then-log-eq0 c =
+pub returns-then-is_empty : goal.returns-then-is_empty
+returns-then-is_empty c =
     let a = c.args in
-    replay_empty a.rule a.n a.image_len a.log.now a.want a.hashes (table_fits (image_fits a.n a.image_len) (sym c.in_ok-check_image.ensures)) c.if-log-eq0.true
+    replay_empty a.rule a.n a.image_len a.log.now a.want a.hashes (table_fits (image_fits a.n a.image_len) (sym c.in_ok-check_image.ensures)) (eqb-true (length a.log.now) 0 (sym c.if-is_empty.ensures))
 
 pub returns-in_err-found : goal.returns-in_err-found
 returns-in_err-found c =
     let a = c.args in
     let k : ℕ = number_of c.in_err-found.field-0.0 in
     let e : refused k ≡ replay_tests a.rule a.n a.image_len a.log.now a.want a.hashes =
-    replay_started a.rule a.n a.image_len a.log.now a.want a.hashes (table_fits (image_fits a.n a.image_len) (sym c.in_ok-check_image.ensures)) c.if-log-eq0.false (refused k) (sym c.in_err-found.ensures) in
+    replay_started a.rule a.n a.image_len a.log.now a.want a.hashes (table_fits (image_fits a.n a.image_len) (sym c.in_ok-check_image.ensures)) (eqb-false (length a.log.now) 0 (sym c.if-is_empty.ensures)) (refused k) (sym c.in_err-found.ensures) in
     search rules
 
 pub returns : goal.returns
 returns c =
     let a = c.args in
     c.check_started.ensures
-    ∙ replay_started a.rule a.n a.image_len a.log.now a.want a.hashes (table_fits (image_fits a.n a.image_len) (sym c.in_ok-check_image.ensures)) c.if-log-eq0.false (given c.in_ok-found.found) (sym c.in_ok-found.ensures)
+    ∙ replay_started a.rule a.n a.image_len a.log.now a.want a.hashes (table_fits (image_fits a.n a.image_len) (sym c.in_ok-check_image.ensures)) (eqb-false (length a.log.now) 0 (sym c.if-is_empty.ensures)) (given c.in_ok-found.found) (sym c.in_ok-found.ensures)
