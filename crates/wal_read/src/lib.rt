@@ -43,7 +43,8 @@ pub enum What {
 }
 
 // An entry: what it is and its bucket, or why there is none; of an update the id, the diff, the nodes and the elided
-// children, all zero otherwise; and where the next one stands. (An array does not stand in an enum, so beside it.)
+// children, all zero otherwise; and where the next one stands. They stand beside `what`, since `Taken` promises each of
+// them, and the position too, of every entry.
 #[derive(Clone, Copy)]
 pub struct WalEntry {
     pub what: Result<What, Refusal>,
