@@ -193,10 +193,6 @@ put-append s at bs cs h =
     ∙ ap (λ (l : List ℕ). l ++ drop (at + length (bs ++ cs)) s) (append_assoc (take at s) bs cs)
     ∙ sym (put_fits s at (bs ++ cs) (omega arith))
 
--- bytes put over the whole of a part
-pub put_whole : (s bs : List ℕ) → length s ≡ length bs → put s 0 bs ≡ bs
-put_whole s bs e = grind (arith, common_steps, put_fits)
-
 -- two blocks that fill a part
 pub put_both : (s a b : List ℕ) (k : ℕ) → k ≡ length a → length s ≡ length a + length b → put (put s 0 a) k b ≡ a ++ b
 put_both s a b k e f = grind (arith, common_steps, put_fits)

@@ -1,4 +1,3 @@
-pub mod Copy
 pub mod Laws
 pub mod Examples
 pub mod Parts
