@@ -2,14 +2,15 @@
 -- Assumes nothing.
 use mathlib.Core.Path.{◌≡◌, refl, sym, ap, ap₂, ◌∙◌}
 use mathlib.Core.Bool.{Bool, true, false, cond}
-use mathlib.Core.List.{List}
+use mathlib.Core.List.{List, ◌++◌}
 use Prim.Native.Nat.{ℕ, zero, suc, ◌+◌, ◌^◌, ◌≤◌, ◌<◌}
 use native.Mathlib.Nat.{le_refl}
 use native.Mathlib.Decide.{ℕ_discrete}
-use native.Mathlib.Numerals.{add-one}
+use native.Mathlib.Numerals.{add-one, unary_clauses}
 use native.Mathlib.Omega.{arith}
 use lib.Dec.{leb, eqb}
-use lib.ListN.{length, get_or, set, drop, length-drop}
+use lib.ListN.{length, get_or, get_or-append, set, take, drop, length-drop, length-append}
+use Rattle.std.proofs.lemmas.List.{get_or-append-add, take-append-drop, length-take-le}
 use lib.Seq.{get_or-set_same, get_or-set_other, get_or-drop, drop-set-lt}
 use borrow.Author.Tests.{leb-true, eqb-true, le-leb, ne_eqb}
 use Rattle.blocks.specs.Blocks.{all_zero}
@@ -137,3 +138,32 @@ padding_all ts n h = zeros_all (drop n ts) (λ i l. get_or-drop n ts i 0 ∙ h i
 -- a bucket's tag is no padding
 pub padding_set : (ts : List ℕ) (n b t : ℕ) → b < n → padding_empty (set ts b t) n ≡ padding_empty ts n
 padding_set ts n b t l = ap all_zero (drop-set-lt n ts b t l)
+
+-- the first tags are counted whatever follows them
+pub count-prefix : (k : Kind) (xs ys : List ℕ) (n : ℕ) → n ≤ length xs → count_of k (xs ++ ys) n ≡ count_of k xs n
+unfolding count_of
+count-prefix k xs ys zero l = refl
+count-prefix k xs ys (suc n) l =
+    ap₂ (λ (a t : ℕ). a + one (is_kind k (kind_of t))) (count-prefix k xs ys n (omega arith)) (get_or-append xs ys 0 n (omega arith))
+
+pub count-both : (k : Kind) (xs ys : List ℕ) (n : ℕ) → count_of k (xs ++ ys) (length xs + n) ≡ count_of k xs (length xs) + count_of k ys n
+unfolding count_of
+count-both k xs ys zero = simp unary_clauses (count-prefix k xs ys (length xs) (le_refl (length xs)))
+count-both k xs ys (suc n) =
+    let before : count_of k (xs ++ ys) (length xs + n) ≡ count_of k xs (length xs) + count_of k ys n = count-both k xs ys n in
+    let tag : one (is_kind k (kind_of (get_or (xs ++ ys) (length xs + n) 0))) ≡ one (is_kind k (kind_of (get_or ys n 0))) =
+        ap (λ (t : ℕ). one (is_kind k (kind_of t))) (get_or-append-add xs ys n 0) in
+    simp unary_clauses (omega (arith, before, tag))
+
+-- all tags of one list and then of another
+pub count-append : (k : Kind) (xs ys : List ℕ) → count_of k (xs ++ ys) (length (xs ++ ys)) ≡ count_of k xs (length xs) + count_of k ys (length ys)
+count-append k xs ys = ap (count_of k (xs ++ ys)) (length-append xs ys) ∙ count-both k xs ys (length ys)
+
+pub count-nothing : (k : Kind) (xs : List ℕ) → length xs ≡ 0 → count_of k xs (length xs) ≡ 0
+unfolding count_of
+count-nothing k xs e = rw e refl
+
+-- the first n tags by themselves
+pub count-take : (k : Kind) (xs : List ℕ) (n : ℕ) → n ≤ length xs → count_of k xs n ≡ count_of k (take n xs) (length (take n xs))
+count-take k xs n l =
+    sym (ap (λ (ts : List ℕ). count_of k ts n) (take-append-drop n xs)) ∙ count-prefix k (take n xs) (drop n xs) n (omega (arith, length-take-le n xs l)) ∙ ap (count_of k (take n xs)) (sym (length-take-le n xs l))

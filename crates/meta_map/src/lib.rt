@@ -72,27 +72,23 @@ fn set_tag(tags: &mut [u8], n: usize, bucket: u64, tag: u8) -> Result<(), Refusa
     ensures { (answer_of result ≡ write_answer tags.old n bucket) × (tags.new ≡ tag_written tags.old n bucket tag) }
 {
     ht_file::check_tags(n, tags.len())?;
-    if bucket < n as u64 {
-        let b = bucket as usize;
-        tags[b] = tag;
-        return Ok(());
+    if n as u64 <= bucket {
+        return Err(Refusal::BucketOutside);
     }
-    Err(Refusal::BucketOutside)
+    tags[bucket as usize] = tag;
+    Ok(())
 }
 
-// How many of the tags from `from` to `to` are full: at most 255, in a byte, so that many are counted at
-// once.
-fn full_between(tags: &[u8], from: usize, to: usize) -> u8
-    requires { (from ≤ to) × (to ≤ from + 255) × (to ≤ length tags.now) }
-    ensures { count_of full tags.now to ≡ count_of full tags.now from + result }
+// How many of some tags are full: at most 255, in a byte, so that many are counted at once.
+fn full_among(tags: &[u8]) -> u8
+    requires { length tags.now ≤ 255 }
+    ensures { result ≡ count_of full tags.now (length tags.now) }
 {
     let mut count: u8 = 0;
-    let mut i = from;
-    while i < to {
-        if FULL_MASK <= tags[i] {
+    for tag in tags {
+        if FULL_MASK <= *tag {
             count += 1;
         }
-        i += 1;
     }
     count
 }
@@ -102,17 +98,11 @@ pub fn full_count(tags: &[u8], n: usize) -> Result<u64, Refusal>
     ensures { answer_of result ≡ if_tags tags.now n (given (count_of full tags.now n)) }
 {
     ht_file::check_tags(n, tags.len())?;
-    let mut count: u32 = 0;
-    let mut i = 0;
-    while i < n {
-        let mut end = n;
-        if COUNTED < n - i {
-            end = i + COUNTED;
-        }
-        count += full_between(tags, i, end) as u32;
-        i = end;
+    let mut count: u64 = 0;
+    for part in tags[..n].chunks(COUNTED) {
+        count += u64::from(full_among(part));
     }
-    Ok(count as u64)
+    Ok(count)
 }
 
 // Whether all bytes after the n tags are zero.
