@@ -302,19 +302,15 @@ fn replayed(w: In, image: &mut [u8], log: &[u8], hashes: &[u64]) -> Words {
 pub fn on_logs(w: In, a: &mut [u8], b: &mut [u8], c: &[u64]) -> Words
     ensures { (length a.new ≡ length a.old) × (length b.new ≡ length b.old) }
 {
-    if w.op < 40 {
-        return on_nodes(w, lent(a, w.a as usize), b);
+    match w.op {
+        35 | 36 => on_nodes(w, lent(a, w.a as usize), b),
+        40..=43 => on_log(w, part(b, w.a as usize)),
+        44..=48 => on_writer(w, lent(b, w.c as usize), part(a, 4096)),
+        _ => replayed(
+            w,
+            lent(a, w.b as usize),
+            part(b, w.c as usize),
+            part(c, w.e as usize),
+        ),
     }
-    if w.op < 44 {
-        return on_log(w, part(b, w.a as usize));
-    }
-    if w.op < 49 {
-        return on_writer(w, lent(b, w.c as usize), part(a, 4096));
-    }
-    replayed(
-        w,
-        lent(a, w.b as usize),
-        part(b, w.c as usize),
-        part(c, w.e as usize),
-    )
 }

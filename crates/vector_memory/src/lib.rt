@@ -261,22 +261,16 @@ fn seen(w: In, s: &[u8]) -> Words {
     }
 }
 
-fn filled(w: In, s: &mut [u8]) {
+fn on_bytes(w: In, s: &mut [u8]) -> Words {
     let at = w.b as usize;
     let count = w.c as usize;
     match w.op {
         16 => fill(s, at, count, w.d as usize, w.e, w.f),
         17 => fill_words(s, at, count, w.d as usize, w.e, w.f),
-        _ => mingle(s, at, count, w.d, w.e as usize),
+        18 => mingle(s, at, count, w.d, w.e as usize),
+        _ => return seen(w, s),
     }
-}
-
-fn on_bytes(w: In, s: &mut [u8]) -> Words {
-    if w.op < 19 {
-        filled(w, s);
-        return one(0);
-    }
-    seen(w, s)
+    one(0)
 }
 
 fn on_cells(w: In, c: &mut [u64]) -> Words {

@@ -2,7 +2,7 @@
 // markers; growth and audit. What is answered is held to the list; what is lent keeps its length.
 #![tactic(auto)]
 
-ghost use Rattle.std.specs.Prelude.{◌≡◌, ◌≤◌, length};
+ghost use Rattle.std.specs.Prelude.{◌≡◌, ◌<◌, ◌≤◌, length};
 
 use answers::Refusal;
 use probe::{Found, Probed};
@@ -45,22 +45,17 @@ fn of_found(r: Result<Found, Refusal>) -> Words {
     }
 }
 
-fn asked(op: u64, t: &[u8], n: usize, x: u64, y: u64) -> Words {
-    match op {
+fn on_tags(w: In, t: &mut [u8]) -> Words {
+    let n = w.a as usize;
+    match w.op {
+        24 => one(of_outcome(meta_map::set_full(t, n, w.c, w.d))),
+        25 => one(of_outcome(meta_map::set_tombstone(t, n, w.c))),
         26 => of_number(meta_map::full_count(t, n)),
         27 => of_truth(meta_map::padding_is_empty(t, n)),
-        28 => of_probed(probe::probe_from(t, n, x, y)),
-        30 => of_allocated(probe::find_bucket(t, n, x, probe::hit_limit()), 0),
-        _ => of_found(probe::lookup(t, n, x, [low_byte(y); 32])),
-    }
-}
-
-fn on_tags(op: u64, t: &mut [u8], n: usize, x: u64, y: u64) -> Words {
-    match op {
-        24 => one(of_outcome(meta_map::set_full(t, n, x, y))),
-        25 => one(of_outcome(meta_map::set_tombstone(t, n, x))),
-        29 => allocated(t, n, x),
-        _ => asked(op, t, n, x, y),
+        28 => of_probed(probe::probe_from(t, n, w.c, w.d)),
+        29 => allocated(t, n, w.c),
+        30 => of_allocated(probe::find_bucket(t, n, w.c, probe::hit_limit()), 0),
+        _ => of_found(probe::lookup(t, n, w.c, [low_byte(w.d); 32])),
     }
 }
 
@@ -79,22 +74,40 @@ const TAGS: [u8; 5] = [0x00, 0x7F, 0x01, 0x80, 0x81];
 
 // The first tags become those of a table, by its digits in base five.
 fn set_table(tags: &mut [u8], table: usize) {
-    put(tags, 0, TAGS[table % 5]);
-    put(tags, 1, TAGS[table / 5 % 5]);
-    put(tags, 2, TAGS[table / 25 % 5]);
-    put(tags, 3, TAGS[table / 125 % 5]);
+    let mut digits = table;
+    for i in 0..4 {
+        put(tags, i, TAGS[digits % 5]);
+        digits /= 5;
+    }
 }
 
-// How many cases a table and a hash have, by what is asked: allocation (0), probing on from eleven visits (1),
-// lookup with sixteen patterns of pages (2).
-fn ways(kind: u64) -> usize
-    ensures low { 1 ≤ result }
-    ensures high { result ≤ 16 }
-{
-    match kind {
-        0 => 1,
-        1 => 11,
-        _ => 16,
+// What each table and hash is asked.
+#[derive(Clone, Copy)]
+enum Asked {
+    Allocation,
+    Probing,
+    Lookup,
+}
+
+impl Asked {
+    fn of(kind: u64) -> Asked {
+        match kind {
+            0 => Asked::Allocation,
+            1 => Asked::Probing,
+            _ => Asked::Lookup,
+        }
+    }
+
+    // How many cases a table and a hash have: one allocation, probing on from eleven visits, lookup with sixteen
+    // patterns of pages.
+    fn ways(self) -> usize
+        ensures { (0 < result) × (result ≤ 16) }
+    {
+        match self {
+            Asked::Allocation => 1,
+            Asked::Probing => 11,
+            Asked::Lookup => 16,
+        }
     }
 }
 
@@ -167,24 +180,24 @@ fn looked_up(image: &mut [u8], n: usize, hash: u64, pattern: usize) -> u64
     found_code(probe::lookup(part(image, 4096 * (1 + n)), n, hash, [0xAB; 32]))
 }
 
-fn tried(kind: u64, image: &mut [u8], n: usize, hash: u64, way: usize) -> u64
+fn tried(what: Asked, image: &mut [u8], n: usize, hash: u64, way: usize) -> u64
     requires { (n ≤ 4) × (way ≤ 16) }
 {
-    match kind {
-        0 => allocated_code(lent(image, 4096), n, hash),
-        1 => probed_code(probe::probe_from(part(image, 4096), n, hash, visit_at(way))),
-        _ => looked_up(image, n, hash, way),
+    match what {
+        Asked::Allocation => allocated_code(lent(image, 4096), n, hash),
+        Asked::Probing => probed_code(probe::probe_from(part(image, 4096), n, hash, visit_at(way))),
+        Asked::Lookup => looked_up(image, n, hash, way),
     }
 }
 
-fn swept_case(kind: u64, n: usize, i: usize) -> u64
+fn swept_case(what: Asked, n: usize, i: usize) -> u64
     requires { n ≤ 4 }
 {
-    let each = ways(kind);
+    let each = what.ways();
     let mut image = [0u8; 20480];
     set_table(&mut image, i / each / HASHES.len());
     tried(
-        kind,
+        what,
         &mut image,
         n,
         HASHES[i / each % HASHES.len()],
@@ -193,20 +206,24 @@ fn swept_case(kind: u64, n: usize, i: usize) -> u64
 }
 
 // How many cases there are of n buckets, and a sum over the answers in their order.
-fn swept(kind: u64, n: usize) -> Words
+fn swept(what: Asked, n: usize) -> Words
     requires { n ≤ 4 }
 {
-    let count = tables(n) * HASHES.len() * ways(kind);
+    let count = tables(n) * HASHES.len() * what.ways();
     let mut sum: u64 = 0;
     for i in 0..count {
-        sum = (sum * 31 + swept_case(kind, n, i) % 16777216) % 1000003;
+        sum = (sum * 31 + swept_case(what, n, i) % 16777216) % 1000003;
     }
     said(count as u64, sum, 0)
 }
 
 fn sweep(w: In) -> Words {
     let n = w.b as usize;
-    if n <= 4 { swept(w.a, n) } else { one(0) }
+    if n <= 4 {
+        swept(Asked::of(w.a), n)
+    } else {
+        one(0)
+    }
 }
 
 // ---- 33, 34 and 37: blocks and markers
@@ -240,11 +257,7 @@ fn written_block(w: In, s: &mut [u8]) -> Words {
     one(vector_memory::others(s, 1))
 }
 
-fn on_table(w: In, a: &mut [u8]) -> Words {
-    if w.op < 32 {
-        return on_tags(w.op, lent(a, w.b as usize), w.a as usize, w.c, w.d);
-    }
-    let s = lent(a, w.a as usize);
+fn on_blocks(w: In, s: &mut [u8]) -> Words {
     match w.op {
         33 => block_read(s, w.b as usize),
         34 => written_block(w, s),
@@ -296,11 +309,10 @@ fn on_images(w: In, a: &mut [u8], b: &mut [u8], c: &[u64]) -> Words {
 pub fn on_tables(w: In, a: &mut [u8], b: &mut [u8], c: &[u64]) -> Words
     ensures { (length a.new ≡ length a.old) × (length b.new ≡ length b.old) }
 {
-    if w.op == 23 {
-        return sweep(w);
+    match w.op {
+        23 => sweep(w),
+        24..=31 => on_tags(w, lent(a, w.b as usize)),
+        56 | 57 => on_images(w, a, b, c),
+        _ => on_blocks(w, lent(a, w.a as usize)),
     }
-    if w.op < 40 {
-        return on_table(w, a);
-    }
-    on_images(w, a, b, c)
 }
