@@ -1,5 +1,5 @@
 -- What is shown at a position, test by test, and that an answer is determined by what it says. Assumes nothing.
-use mathlib.Core.Path.{◌≡◌, sym, ap, ◌∙◌}
+use mathlib.Core.Path.{◌≡◌, ap, ◌∙◌}
 use mathlib.Core.Bool.{Bool, cond}
 use mathlib.Core.List.{List}
 use Prim.Native.Nat.{ℕ, ◌≤◌, ◌<◌}
@@ -10,14 +10,11 @@ use Rattle.std.specs.Prelude.{Result, Ok, Err}
 use Rattle.answers.specs.Refusals.{number_of}
 use Rattle.answers.specs.declared.Refusal.{Refusal}
 use Rattle.answers.proofs.Laws.{refusal_one}
-use Rattle.answers.specs.Answers.{given}
-use Rattle.blocks.specs.Blocks.{put}
 use Rattle.wal.specs.Reader.{Next, edition_at, start_of, next_at}
 use Rattle.wal_list.specs.Lines.{ascii, refused_line}
-use Rattle.wal_list.specs.Shown.{Shown, more, last, started, first_shown, next_shown, shown_at, text_of, on, over, said_of, line_said}
+use Rattle.wal_list.specs.Shown.{last, started, first_shown, next_shown, shown_at, line_said}
 use Rattle.wal_list.specs.declared.Line.{Line}
 use Rattle.wal_list.specs.declared.Line.TheVariants as line
-use Rattle.wal_list.proofs.Writing.{Written}
 
 module _ (log : List ℕ) where
   pub first_long : 65536 < length log → first_shown log ≡ last (refused_line 0 2)
@@ -34,14 +31,6 @@ module _ (log : List ℕ) where
 
   pub shown_next : (at : ℕ) (n : Next) → (at ≡ 0 → ⊥) → next_at (edition_at log) log at ≡ n → shown_at log at ≡ next_shown n at
   shown_next at n e h = ap (λ (b : Bool). cond b (first_shown log) (next_shown (next_at (edition_at log) log at) at)) (ne_eqb at 0 e) ∙ ap (λ (m : Next). next_shown m at) h
-
--- ---- what is said and filled in
-module _ (l m : List ℕ) (s : Shown) (t : List ℕ) (e : ℕ) (w : Written l t m e) where
-  pub filled_last : s ≡ last t → (given (over e) ≡ given (said_of s)) × (m ≡ put l 0 (text_of s))
-  filled_last h = (ap (λ (k : ℕ). given (over k)) w.1 ∙ sym (ap (λ (x : Shown). given (said_of x)) h), w.0 ∙ sym (ap (λ (x : Shown). put l 0 (text_of x)) h))
-
-  pub filled_more : (p : ℕ) → s ≡ more t p → (given (on e p) ≡ given (said_of s)) × (m ≡ put l 0 (text_of s))
-  filled_more p h = (ap (λ (k : ℕ). given (on k p)) w.1 ∙ sym (ap (λ (x : Shown). given (said_of x)) h), w.0 ∙ sym (ap (λ (x : Shown). put l 0 (text_of x)) h))
 
 -- ---- two answers that the contract allows for one input are equal
 pub line_one : (a b : Result Line Refusal) → line_said a ≡ line_said b → a ≡ b

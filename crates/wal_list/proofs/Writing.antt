@@ -8,6 +8,7 @@ use lib.ListN.{length, take, drop, length-append, length-drop, drop_of_length-le
 use lib.Seq.{take_all, drop-drop}
 use Rattle.blocks.specs.Blocks.{put}
 use Rattle.blocks.proofs.Laws.{put_fits, put-append}
+use Rattle.wal_list.proofs.Decimal.{decimal-length, spelt}
 
 -- the text t stands at the start of the line, which was l₀, and ends at e
 abbrev pub Written : List ℕ → List ℕ → List ℕ → ℕ → Type 0
@@ -18,6 +19,13 @@ pub written_on : (l₀ t l : List ℕ) (e : ℕ) (p m : List ℕ) (r : ℕ) → 
 written_on l₀ t l e p m r w h a b =
     let there : e ≡ 0 + length t = omega arith in
     (a ∙ ap₂ (λ (x : List ℕ) (i : ℕ). put x i p) w.0 there ∙ put-append l₀ 0 t p (omega arith), omega (arith, length-append t p))
+
+-- the same of what is put
+pub put_on : (l₀ t : List ℕ) (e : ℕ) (p : List ℕ) → e ≡ length t → length t + length p ≤ length l₀ → put (put l₀ 0 t) e p ≡ put l₀ 0 (t ++ p)
+put_on l₀ t e p h l = let there : e ≡ 0 + length t = omega arith in ap (λ (i : ℕ). put (put l₀ 0 t) i p) there ∙ put-append l₀ 0 t p (omega arith)
+
+-- a line's parts one after the other
+pub ruleset line_parts = (put_on, decimal-length, length-append)
 
 -- bytes put at the start of the part from `a` on are put at `a`
 pub part-put : (s : List ℕ) (a : ℕ) (bs : List ℕ) → a + length bs ≤ length s → put_mid a (length s - a) s (put (mid_of a (length s - a) s) 0 bs) ≡ put s a bs

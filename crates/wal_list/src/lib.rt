@@ -29,6 +29,7 @@ pub enum Line {
 }
 
 // Puts a text into a line from `at` on and answers the position after it.
+#[tactic(auto, using(std::proofs::lemmas::Grind::common_steps, blocks::proofs::Laws::put_fits))]
 fn put_text(line: &mut [u8], at: usize, text: &[u8]) -> usize
     requires { at + length text.now ≤ length line.old }
     ensures { (line.new ≡ put line.old at text.now) × (result ≡ at + length text.now) }
@@ -39,6 +40,7 @@ fn put_text(line: &mut [u8], at: usize, text: &[u8]) -> usize
 }
 
 // The same with a number in decimal.
+#[tactic(auto, using(crate::proofs::Decimal::spelt))]
 fn put_decimal(line: &mut [u8], at: usize, n: u64) -> usize
     requires { at + 20 ≤ length line.old }
     ensures { (line.new ≡ put line.old at (decimal n)) × (result ≡ at + length (decimal n)) }
@@ -49,6 +51,7 @@ fn put_decimal(line: &mut [u8], at: usize, n: u64) -> usize
 }
 
 // Puts an offset, a word with its spaces and a number at the start of a line.
+#[tactic(auto, using(crate::proofs::Writing::line_parts))]
 fn put_field(line: &mut [u8], offset: usize, word: &[u8], n: u64) -> usize
     requires { (80 ≤ length line.old) × (length word.now ≤ 9) }
     ensures { (line.new ≡ put line.old 0 (decimal offset ++ word.now ++ decimal n)) × (result ≡ length (decimal offset ++ word.now ++ decimal n)) }
@@ -59,6 +62,7 @@ fn put_field(line: &mut [u8], offset: usize, word: &[u8], n: u64) -> usize
 }
 
 // A line of one field.
+#[tactic(auto, using(crate::proofs::Writing::line_parts))]
 fn put_line(line: &mut [u8], offset: usize, word: &[u8], n: u64) -> usize
     requires { (80 ≤ length line.old) × (length word.now ≤ 9) }
     ensures { (line.new ≡ put line.old 0 (decimal offset ++ word.now ++ decimal n ++ ascii "\n")) × (result ≡ length (decimal offset ++ word.now ++ decimal n ++ ascii "\n")) }
@@ -68,6 +72,7 @@ fn put_line(line: &mut [u8], offset: usize, word: &[u8], n: u64) -> usize
 }
 
 // The line of an update.
+#[tactic(auto, using(crate::proofs::Writing::line_parts))]
 fn put_update(line: &mut [u8], offset: usize, bucket: u64, count: usize) -> usize
     requires { 80 ≤ length line.old }
     ensures { (line.new ≡ put line.old 0 (decimal offset ++ ascii " update " ++ decimal bucket ++ ascii " " ++ decimal count ++ ascii "\n")) × (result ≡ length (decimal offset ++ ascii " update " ++ decimal bucket ++ ascii " " ++ decimal count ++ ascii "\n")) }
@@ -79,6 +84,7 @@ fn put_update(line: &mut [u8], offset: usize, bucket: u64, count: usize) -> usiz
 }
 
 // The line of the end.
+#[tactic(auto, using(crate::proofs::Writing::line_parts))]
 fn put_end(line: &mut [u8], offset: usize) -> usize
     requires { 80 ≤ length line.old }
     ensures { (line.new ≡ put line.old 0 (end_line offset)) × (result ≡ length (end_line offset)) }
@@ -101,6 +107,7 @@ fn put_refused(line: &mut [u8], offset: usize, why: Refusal) -> usize
 }
 
 // The first line: the start, or why there is none.
+#[tactic(auto, unfolding(crate::specs::Shown::first_shown))]
 fn first_line(log: &[u8], line: &mut [u8]) -> Line
     requires { 80 ≤ length line.old }
     ensures { (line_said (Ok result) ≡ given (said_of (first_shown log.now))) × (line.new ≡ put line.old 0 (text_of (first_shown log.now))) }
