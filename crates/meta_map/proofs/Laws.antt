@@ -152,7 +152,7 @@ count-both k xs ys zero = simp unary_clauses (count-prefix k xs ys (length xs) (
 count-both k xs ys (suc n) =
     let before : count_of k (xs ++ ys) (length xs + n) ≡ count_of k xs (length xs) + count_of k ys n = count-both k xs ys n in
     let tag : one (is_kind k (kind_of (get_or (xs ++ ys) (length xs + n) 0))) ≡ one (is_kind k (kind_of (get_or ys n 0))) =
-        ap (λ (t : ℕ). one (is_kind k (kind_of t))) (get_or-append-add xs ys n 0) in
+    ap (λ (t : ℕ). one (is_kind k (kind_of t))) (get_or-append-add xs ys n 0) in
     simp unary_clauses (omega (arith, before, tag))
 
 -- all tags of one list and then of another

@@ -14,4 +14,4 @@ pub loop-tag-preserved : goal.loop-tag-preserved
 loop-tag-preserved c =
     let more = count-suc full c.args.tags.now c.loop-tag.tag-index in
     let kind = kind_full (get_or c.args.tags.now c.loop-tag.tag-index 0) in
-    record { counted = grind (arith, common_steps, nat_tests); few = omega arith; }
+    record { counted = grind (arith, common_steps, nat_tests); few = omega arith }
