@@ -879,7 +879,7 @@ impl From<wal_read::WalEntry> for Entry {
 pub extern "C" fn bitbox_reader_next(log: &[u8], at: usize, edition: u32) -> Entry
     ensures { Read (next_by Zeros (edition_of edition) log.now at) at result }
 {
-    wal_read::entry_at(log, at, numbers::edition_of(edition)).into()
+    wal_read::entry_at(log, at, numbers::edition_of(edition), AfterEnd::Zeros).into()
 }
 
 // The same, whatever follows end: 6, 8, 4. The end is told here, and every other entry is that of `bitbox_reader_next`,
@@ -888,7 +888,7 @@ pub extern "C" fn bitbox_reader_next(log: &[u8], at: usize, edition: u32) -> Ent
 pub extern "C" fn bitbox_reader_next_tolerant(log: &[u8], at: usize, edition: u32) -> Entry
     ensures { Read (next_by Tolerant (edition_of edition) log.now at) at result }
 {
-    match wal_read::head_at_tolerant(log, at, numbers::edition_of(edition)) {
+    match wal_read::head_at(log, at, numbers::edition_of(edition), AfterEnd::Tolerant) {
         Ok(wal_read::Head::End) => wal_read::end_at(at).into(),
         _ => bitbox_reader_next(log, at, edition),
     }
@@ -941,7 +941,7 @@ fn head_by(log: &[u8], at: usize, edition: u32, rule: AfterEnd) -> Head
     ensures { result ≡ head_words (head_of (next_by rule (edition_of edition) log.now at)) at }
 {
     of_head(
-        wal_read::head_by(log, at, numbers::edition_of(edition), rule),
+        wal_read::head_at(log, at, numbers::edition_of(edition), rule),
         at,
     )
 }
@@ -1083,7 +1083,7 @@ fn replay_by(
         sync: sync_seqn,
         seed,
     };
-    recover::recover_by(image, n, log, want, hashes, rule).into()
+    recover::recover(image, n, log, want, hashes, rule).into()
 }
 
 // Replays a log on an image of a store, with a hash for each update: 1, 5, 7, 26, then 6, 8, 4, 9, then 27 where a byte
@@ -1130,7 +1130,7 @@ fn step_by(
     ensures { (result ≡ went_words (step_answer rule n image.old (edition_of edition) log.now at) at) × (image.new ≡ step_image rule n image.old (edition_of edition) log.now at hash) }
 {
     let ed = numbers::edition_of(edition);
-    of_stepped(recover::apply_by(image, n, log, ed, at, hash, rule), at)
+    of_stepped(recover::apply_entry(image, n, log, ed, at, hash, rule), at)
 }
 
 // One entry of it, from a log of an edition: 1, 6, 8, 4, 9, and 27 where a byte after end is not zero.

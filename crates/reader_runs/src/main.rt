@@ -132,7 +132,7 @@ fn show_two(title: &[u8], at: usize, bytes: &[u8])
     io::write_all(1, title);
     show_all(&log);
     show_entry(read_again(&log));
-    show_entry(wal_read::entry_at(&log, 4095, wal_read::edition_of(&log)));
+    show_entry(wal_read::entry_at(&log, 4095, wal_read::edition_of(&log), AfterEnd::Zeros));
 }
 
 fn edition_two() {

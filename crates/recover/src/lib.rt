@@ -12,7 +12,7 @@ ghost use Rattle.page_diff.specs.Diff.{reserved, count_of};
 ghost use Rattle.page_diff.specs.Pack.{unpacked_byte};
 ghost use Rattle.wal.specs.Log.{update_body};
 ghost use Rattle.wal.specs.Reader.{diff_at, nodes_from};
-ghost use Rattle.wal.specs.declared.AfterEnd.TheVariants.{Zeros, Tolerant};
+ghost use Rattle.wal.specs.declared.AfterEnd.TheVariants.{Tolerant};
 ghost use Rattle.recover.specs.Places.{replayed};
 ghost use Rattle.recover.specs.Replay.{of_store, check_answer, after_start, step_answer, step_image, replay_tests, replay_answer, replay_image, steps_of, stepped_said, recovered_said};
 ghost use Rattle.recover.specs.InnerPage.{page_by};
@@ -57,7 +57,7 @@ fn check_log(log: &[u8], n: usize, hashes: usize, rule: AfterEnd) -> Result<(), 
     let mut updates: usize = 0;
     // Each record tells where the next one stands, so there is no range to go over.
     loop {
-        let head = wal_read::head_by(log, at, edition, rule)?;
+        let head = wal_read::head_at(log, at, edition, rule)?;
         if let Head::Clear { bucket, next } = head {
             if n as u64 <= bucket {
                 return Err(Refusal::BucketOutside);
@@ -115,16 +115,11 @@ fn write_slots(page: &mut [u8], d: Diff, log: &[u8], from: usize)
     requires { (length page.old ≡ 4096) × (reserved d.words ≡ false) × (from + 32 * count_of d.words ≤ length log.now) }
     ensures { page.new ≡ tabulate (unpacked_byte d.words (nodes_from log.now from (count_of d.words)) page.old) 4096 }
 {
-    let mut c = 0;
-    let mut left = d;
-    // The slots are walked by `next_slot`, and c counts their nodes: there is no iterator to enumerate.
-    while let Some((s, rest)) = page_diff::next_slot(left) {
+    for (c, s) in page_diff::marked_slots(d).enumerate() {
         let node = blocks::block::<32>(log, from + 32 * c);
         let a = 32 * s;
         let e = a + 32;
         write_node(&mut page[a..e], node);
-        c += 1;
-        left = rest;
     }
 }
 
@@ -158,7 +153,7 @@ fn apply_at(
     requires { image_fits n (length image.old) ≡ true }
     ensures { (stepped_said result ≡ step_answer rule n image.old edition log.now at) × (image.new ≡ step_image rule n image.old edition log.now at hash) }
 {
-    let head = wal_read::head_by(log, at, edition, rule)?;
+    let head = wal_read::head_at(log, at, edition, rule)?;
     if let Head::Clear { bucket, next } = head {
         if n as u64 <= bucket {
             return Err(Refusal::BucketOutside);
@@ -190,7 +185,7 @@ fn apply_at(
 // Applies the entry at a position of a log of an edition to the image: a clear writes its bucket's tag, an update its
 // tag, its marked slots and its last 40 bytes. Every other byte stays, and a refusal leaves all. By what is wanted
 // after end: 27 in place of end.
-pub fn apply_by(
+pub fn apply_entry(
     image: &mut [u8],
     n: usize,
     log: &[u8],
@@ -203,34 +198,6 @@ pub fn apply_by(
 {
     ht_file::check_image(n, image.len())?;
     apply_at(image, n, log, edition, at, hash, rule)
-}
-
-// The step; zeros are wanted after end.
-pub fn apply_entry(
-    image: &mut [u8],
-    n: usize,
-    log: &[u8],
-    edition: Edition,
-    at: usize,
-    hash: u64,
-) -> Result<Stepped, Refusal>
-    ensures { (stepped_said result ≡ step_answer Zeros n image.old edition log.now at) × (image.new ≡ step_image Zeros n image.old edition log.now at hash) }
-{
-    apply_by(image, n, log, edition, at, hash, AfterEnd::Zeros)
-}
-
-// The step, whatever follows end.
-pub fn apply_entry_tolerant(
-    image: &mut [u8],
-    n: usize,
-    log: &[u8],
-    edition: Edition,
-    at: usize,
-    hash: u64,
-) -> Result<Stepped, Refusal>
-    ensures { (stepped_said result ≡ step_answer Tolerant n image.old edition log.now at) × (image.new ≡ step_image Tolerant n image.old edition log.now at hash) }
-{
-    apply_by(image, n, log, edition, at, hash, AfterEnd::Tolerant)
 }
 
 // Applies every entry of a log that was checked for this table; what follows its end was looked at then.
@@ -300,7 +267,7 @@ fn check_started(
 
 // What replay answers, told before a byte is written: 1, nothing, 5, 7, 26, stale, the first bad entry, 27 by what is
 // wanted after end, the hash count. It looks at the lengths of the image and of the hashes alone.
-pub fn check_by(
+pub fn check_replay(
     image_len: usize,
     n: usize,
     log: &[u8],
@@ -318,35 +285,9 @@ pub fn check_by(
     check_started(log, n, found, want, hashes, rule)
 }
 
-// The same, with zeros wanted after end.
-pub fn check_replay(
-    image_len: usize,
-    n: usize,
-    log: &[u8],
-    want: Expected,
-    hashes: usize,
-) -> Result<Recovered, Refusal>
-    ensures { recovered_said result ≡ replay_tests Zeros n image_len log.now want hashes }
-{
-    check_by(image_len, n, log, want, hashes, AfterEnd::Zeros)
-}
-
-// The same, whatever follows end.
-pub fn check_replay_tolerant(
-    image_len: usize,
-    n: usize,
-    log: &[u8],
-    want: Expected,
-    hashes: usize,
-) -> Result<Recovered, Refusal>
-    ensures { recovered_said result ≡ replay_tests Tolerant n image_len log.now want hashes }
-{
-    check_by(image_len, n, log, want, hashes, AfterEnd::Tolerant)
-}
-
 // Replay: applies a log to the image of a table of n buckets, where the log is of the table's store and of the expected
 // sync, can be applied whole, and ends as is wanted; otherwise the image stays as it is.
-pub fn recover_by(
+pub fn recover(
     image: &mut [u8],
     n: usize,
     log: &[u8],
@@ -356,35 +297,9 @@ pub fn recover_by(
 ) -> Result<Recovered, Refusal>
     ensures { (recovered_said result ≡ replay_answer rule n image.old log.now want hashes.now) × (image.new ≡ replay_image rule n image.old log.now want hashes.now) }
 {
-    let did = check_by(image.len(), n, log, want, hashes.len(), rule)?;
+    let did = check_replay(image.len(), n, log, want, hashes.len(), rule)?;
     if let Recovered::Applied = did {
         run(image, n, log, hashes);
     }
     Ok(did)
-}
-
-// Replay; zeros are wanted after end.
-pub fn recover(
-    image: &mut [u8],
-    n: usize,
-    log: &[u8],
-    want: Expected,
-    hashes: &[u64],
-) -> Result<Recovered, Refusal>
-    ensures { (recovered_said result ≡ replay_answer Zeros n image.old log.now want hashes.now) × (image.new ≡ replay_image Zeros n image.old log.now want hashes.now) }
-{
-    recover_by(image, n, log, want, hashes, AfterEnd::Zeros)
-}
-
-// Replay, whatever follows end.
-pub fn recover_tolerant(
-    image: &mut [u8],
-    n: usize,
-    log: &[u8],
-    want: Expected,
-    hashes: &[u64],
-) -> Result<Recovered, Refusal>
-    ensures { (recovered_said result ≡ replay_answer Tolerant n image.old log.now want hashes.now) × (image.new ≡ replay_image Tolerant n image.old log.now want hashes.now) }
-{
-    recover_by(image, n, log, want, hashes, AfterEnd::Tolerant)
 }

@@ -68,7 +68,7 @@ fn rule(x: u64) -> AfterEnd {
 // ---- 40 to 43: a log is read
 
 fn reader_next(log: &[u8], at: usize, after: AfterEnd) -> Words {
-    let e = wal_read::entry_by(log, at, wal_read::edition_of(log), after);
+    let e = wal_read::entry_at(log, at, wal_read::edition_of(log), after);
     let [lo, hi] = e.diff.words;
     let next = e.next as u64;
     match e.what {
@@ -81,7 +81,7 @@ fn reader_next(log: &[u8], at: usize, after: AfterEnd) -> Words {
 
 // A word of an update's id (part 0), nodes (1) or elided children (2).
 fn update_part(log: &[u8], at: usize, which: u64, index: u64) -> Words {
-    let e = wal_read::entry_at_tolerant(log, at, wal_read::edition_of(log));
+    let e = wal_read::entry_at(log, at, wal_read::edition_of(log), AfterEnd::Tolerant);
     one(match which {
         0 => word_of(&e.id, index),
         1 => word_of_nodes(&e.packed.nodes, index),
@@ -196,7 +196,7 @@ fn image_of(table: &[u8]) -> [u8; SIZE] {
 
 // Replays on the image, and compares it with the one expected.
 fn ends_in(image: &mut [u8; SIZE], log: &[u8], hashes: &[u64], expected: &[u8; SIZE]) -> bool {
-    let answer = recover::recover(image, N, log, wanted(SYNC), hashes);
+    let answer = recover::recover(image, N, log, wanted(SYNC), hashes, AfterEnd::Zeros);
     matches!(answer, Ok(Recovered::Applied)) && *image == *expected
 }
 
@@ -244,7 +244,15 @@ struct Standing {
 // Applies one entry to the image; none where the log has ended.
 fn entry(image: &mut [u8], log: &[u8], p: Standing, hashes: &[u64]) -> Option<Standing> {
     let hash = element(hashes, p.used, 0);
-    match recover::apply_entry(image, N, log, wal_read::edition_of(log), p.at, hash) {
+    match recover::apply_entry(
+        image,
+        N,
+        log,
+        wal_read::edition_of(log),
+        p.at,
+        hash,
+        AfterEnd::Zeros,
+    ) {
         Ok(Stepped::Cleared(at)) => Some(Standing { at, used: p.used }),
         Ok(Stepped::Updated(at)) => Some(Standing {
             at,
@@ -277,7 +285,14 @@ fn walk(table: &[u8], log: &[u8], hashes: &[u64], expected: &[u8; SIZE]) -> Coun
 // The replay without a stop, its image as one number, and how many stops there are and do not end in it.
 fn stopped(table: &[u8], log: &[u8], hashes: &[u64]) -> Words {
     let mut expected = image_of(table);
-    let r = of_recovered(recover::recover(&mut expected, N, log, wanted(SYNC), hashes));
+    let r = of_recovered(recover::recover(
+        &mut expected,
+        N,
+        log,
+        wanted(SYNC),
+        hashes,
+        AfterEnd::Zeros,
+    ));
     let t = walk(table, log, hashes, &expected);
     said6(r.a, weighed(&expected), t.answers, t.differ, 0, 0)
 }
@@ -293,7 +308,7 @@ fn on_nodes(w: In, page: &mut [u8], b: &[u8]) -> Words {
 fn replayed(w: In, image: &mut [u8], log: &[u8], hashes: &[u64]) -> Words {
     if w.op == 58 {
         let want = wanted(low_four(w.d));
-        return of_recovered(recover::recover_by(image, w.a as usize, log, want, hashes, rule(w.f)));
+        return of_recovered(recover::recover(image, w.a as usize, log, want, hashes, rule(w.f)));
     }
     stopped(image, log, hashes)
 }

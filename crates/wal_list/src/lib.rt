@@ -10,6 +10,7 @@ ghost use Rattle.wal_list.specs.Lines.{ascii, decimal, end_line, refused_line};
 ghost use Rattle.wal_list.specs.Shown.{first_shown, shown_at, text_of, said_of, line_said, line_answer, line_after, lines_answer, lines_after};
 
 use answers::Refusal;
+use wal::AfterEnd;
 use wal_read::Head;
 
 // The longest log that is read.
@@ -139,7 +140,7 @@ fn filled(log: &[u8], at: usize, line: &mut [u8]) -> Line
     if at == 0 {
         return first_line(log, line);
     }
-    let read = wal_read::head_at_tolerant(log, at, wal_read::edition_of(log));
+    let read = wal_read::head_at(log, at, wal_read::edition_of(log), AfterEnd::Tolerant);
     if let Err(why) = read {
         let len = put_refused(line, at, why);
         return Line::Last { len };

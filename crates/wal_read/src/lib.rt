@@ -1,7 +1,7 @@
-// The read path of a log, as the original's wal/read.rs. `head_by` is the core: it takes a record
-// apart but for its nodes, and builds no table. `entry_by` gives the whole entry. Both take the log, its
-// edition, a position and what is wanted after end: zeros in `head_at` and `entry_at`, nothing in the calls whose
-// name ends with `_tolerant`. `WalBlobReader` holds log, position and that, and what the log's start answered.
+// The read path of a log, as the original's wal/read.rs. `head_at` is the core: it takes a record
+// apart but for its nodes, and builds no table. `entry_at` gives the whole entry. Both take the log, a
+// position, its edition and what is wanted after end. `WalBlobReader` holds log, position and that, and what the
+// log's start answered.
 #![tactic(auto)]
 
 ghost use Rattle.std.specs.Prelude.{◌≡◌, ◌+◌, ◌*◌, ◌≤◌, length, IfOk};
@@ -155,7 +155,7 @@ fn head_after(log: &[u8], body: usize, tag: u8) -> Result<Head, Refusal>
 
 // The record at `at` without its nodes, whatever follows end: its mark, and what is read after it. No sum wraps on a
 // position that no call answered.
-pub fn head_at_tolerant(log: &[u8], at: usize, edition: Edition) -> Result<Head, Refusal>
+fn record_at(log: &[u8], at: usize, edition: Edition) -> Result<Head, Refusal>
     ensures { head_said result ≡ head_of (next_by Tolerant edition log.now at) }
 {
     let tag = tag_at(log, at, edition)?;
@@ -173,23 +173,16 @@ fn wanted(log: &[u8], from: usize, rule: AfterEnd) -> bool
 }
 
 // The record at `at` without its nodes, by what is wanted after end: 27 in place of end.
-pub fn head_by(log: &[u8], at: usize, edition: Edition, rule: AfterEnd) -> Result<Head, Refusal>
+pub fn head_at(log: &[u8], at: usize, edition: Edition, rule: AfterEnd) -> Result<Head, Refusal>
     ensures { head_said result ≡ head_of (next_by rule edition log.now at) }
 {
-    let head = head_at_tolerant(log, at, edition)?;
+    let head = record_at(log, at, edition)?;
     if let Head::End = head {
         if !wanted(log, at + wal::mark_size(edition), rule) {
             return Err(Refusal::AfterEndUsed);
         }
     }
     Ok(head)
-}
-
-// The same, with zeros wanted after end.
-pub fn head_at(log: &[u8], at: usize, edition: Edition) -> Result<Head, Refusal>
-    ensures { head_said result ≡ head_of (next_by Zeros edition log.now at) }
-{
-    head_by(log, at, edition, AfterEnd::Zeros)
 }
 
 // The table of `count` nodes that stand in the log from `from` on, zeros after them.
@@ -219,10 +212,10 @@ fn bare(what: Result<What, Refusal>, next: usize) -> WalEntry
 }
 
 // The entry at `at`, by what is wanted after end. At the end and on a refusal `next` is `at` itself.
-pub fn entry_by(log: &[u8], at: usize, edition: Edition, rule: AfterEnd) -> WalEntry
+pub fn entry_at(log: &[u8], at: usize, edition: Edition, rule: AfterEnd) -> WalEntry
     ensures { Taken (next_by rule edition log.now at) at result }
 {
-    match head_by(log, at, edition, rule) {
+    match head_at(log, at, edition, rule) {
         Ok(Head::Clear { bucket, next }) => bare(Ok(What::Clear(bucket)), next),
         Ok(
             Head::Update {
@@ -258,27 +251,13 @@ pub fn end_at(at: usize) -> WalEntry
     bare(Ok(What::End), at)
 }
 
-// The entry at `at`; zeros are wanted after end.
-pub fn entry_at(log: &[u8], at: usize, edition: Edition) -> WalEntry
-    ensures { Taken (next_by Zeros edition log.now at) at result }
-{
-    entry_by(log, at, edition, AfterEnd::Zeros)
-}
-
-// The entry at `at`, whatever follows end.
-pub fn entry_at_tolerant(log: &[u8], at: usize, edition: Edition) -> WalEntry
-    ensures { Taken (next_by Tolerant edition log.now at) at result }
-{
-    entry_by(log, at, edition, AfterEnd::Tolerant)
-}
-
 // What a reader whose start was answered so gives at `at`: the entry there, by the log's own edition and by what is
 // wanted after end, or the start's refusal again.
 pub fn entry_set(log: &[u8], at: usize, start: Result<u64, Refusal>, rule: AfterEnd) -> WalEntry
     ensures { Taken (gives_at rule (answer_of start) log.now at) at result }
 {
     match start {
-        Ok(_) => entry_by(log, at, edition_of(log), rule),
+        Ok(_) => entry_at(log, at, edition_of(log), rule),
         Err(at_start) => bare(Err(at_start), at),
     }
 }

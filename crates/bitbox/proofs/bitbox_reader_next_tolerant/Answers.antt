@@ -21,9 +21,9 @@ same_next ed log at h said not_end =
 
 pub returns-in_default : goal.returns-in_default
 returns-in_default c =
-    let said : head_said c.head_at_tolerant.result ≡ head_of (next_by Tolerant (edition_of c.args.edition) c.args.log.now c.args.at) = cc in
-    let other : c.head_at_tolerant.result ≡ Ok End → ⊥ = grind arith in
-    subst (λ (n : Next). Read n c.args.at c.bitbox_reader_next.result) (same_next (edition_of c.args.edition) c.args.log.now c.args.at c.head_at_tolerant.result said other) c.bitbox_reader_next.ensures
+    let said : head_said c.head_at.result ≡ head_of (next_by Tolerant (edition_of c.args.edition) c.args.log.now c.args.at) = cc in
+    let other : c.head_at.result ≡ Ok End → ⊥ = grind arith in
+    subst (λ (n : Next). Read n c.args.at c.bitbox_reader_next.result) (same_next (edition_of c.args.edition) c.args.log.now c.args.at c.head_at.result said other) c.bitbox_reader_next.ensures
 
 pub returns-in-Ok-End : goal.returns-in-Ok-End
 returns-in-Ok-End c = grind (arith, head_end)

@@ -4,7 +4,7 @@ use Rattle.recover.specs.Replay.{recovered_said}
 use Rattle.recover.specs.declared.Recovered.{Recovered}
 use Rattle.recover.proofs.Replays.{applied_told}
 use Rattle.recover.proofs.Endings.{check_tolerant}
-use Rattle.recover.proofs.recover_by.Goals as goal
+use Rattle.recover.proofs.recover.Goals as goal
 
 pub run-requires : goal.run-requires
 run-requires c =

@@ -2,7 +2,7 @@
 use Rattle.std.proofs.Common.{rules, ℕ, sym}
 use Rattle.answers.specs.Refusals.{number_of}
 use Rattle.recover.proofs.Steps.{step_unfit}
-use Rattle.recover.proofs.apply_by.Goals as goal
+use Rattle.recover.proofs.apply_entry.Goals as goal
 
 pub returns-in_err-check_image : goal.returns-in_err-check_image
 returns-in_err-check_image c =

@@ -7,7 +7,7 @@ use Rattle.ht_file.specs.Places.{image_fits}
 use Rattle.ht_file.proofs.Laws.{table_fits}
 use Rattle.recover.specs.Replay.{replay_tests}
 use Rattle.recover.proofs.Replays.{replay_unfit, replay_empty, replay_started}
-use Rattle.recover.proofs.check_by.Goals as goal
+use Rattle.recover.proofs.check_replay.Goals as goal
 
 pub returns-in_err-check_image : goal.returns-in_err-check_image
 returns-in_err-check_image c =

@@ -4,7 +4,7 @@ use Rattle.wal.specs.Reader.{ended, next_at}
 use Rattle.wal_read.specs.Head.{the_end, head_of, head_said}
 use Rattle.wal_read.specs.declared.Head.{Head}
 use Rattle.wal_read.proofs.ReadLaws.{head_end, end_within}
-use Rattle.wal_read.proofs.head_by.Goals as goal
+use Rattle.wal_read.proofs.head_at.Goals as goal
 
 pub overflow_add-at : goal.overflow_add-at
 overflow_add-at c =

@@ -4,7 +4,7 @@ use Rattle.answers.specs.Refusals.{number_of}
 use Rattle.wal.specs.Reader.{by_tag, next_at}
 use Rattle.wal_read.specs.Head.{a_refusal, head_of}
 use Rattle.wal_read.proofs.NextLaws.{next_unmarked, next_tagged}
-use Rattle.wal_read.proofs.head_at_tolerant.Goals as goal
+use Rattle.wal_read.proofs.record_at.Goals as goal
 
 pub returns-in_err-tag : goal.returns-in_err-tag
 returns-in_err-tag c =

@@ -15,7 +15,7 @@ use Rattle.wal_read.specs.declared.Head.TheVariants as head
 use Rattle.wal_read.proofs.NextLaws.{read_ok}
 use Rattle.wal_read.proofs.ReadLaws.{There, head_clear, head_update, head_end, head_stop}
 use Rattle.wal_read.proofs.Answered.{bare_clear, bare_end, bare_stop, update_taken}
-use Rattle.wal_read.proofs.entry_by.Goals as goal
+use Rattle.wal_read.proofs.entry_at.Goals as goal
 
 -- in the arm of an update: all of it stands in the log
 there : (rule : AfterEnd) (ed : Edition) (log : List ℕ) (at b c p : ℕ) (h : Head) → h ≡ head.Update b c p → head_said (Ok h) ≡ head_of (next_by rule ed log at) → There rule ed log at b c p
