@@ -32,7 +32,7 @@ ghost use Rattle.bitbox.specs.Words.{words, outcome_words, number_words, truth_w
 use answers::Refusal;
 use page_diff::{Diff, Packed};
 use recover::Expected;
-use sync::{Change, SyncRefusal, SyncStart, SyncState};
+use sync::{Change, Lent, SyncRefusal, SyncStart, SyncState};
 use wal::{AfterEnd, Start, Writer};
 
 // ---- answers
@@ -1037,7 +1037,13 @@ pub extern "C" fn bitbox_sync_step(
     ensures { StepExport st (mem_of tags.old marks.old cells.old log.old) page.now c result (mem_of tags.new marks.new cells.new log.new) }
 {
     let mut state = SyncState::from(st);
-    let taken = sync::step(tags, marks, cells, log, page, c, &mut state);
+    let mut m = Lent {
+        tags,
+        marks,
+        cells,
+        log,
+    };
+    let taken = sync::step(&mut m, page, c, &mut state);
     of_taken(taken, state.into())
 }
 
@@ -1061,7 +1067,13 @@ pub extern "C" fn bitbox_sync(
         n,
         log_start: start.into(),
     };
-    let synced = sync::sync(tags, marks, cells, log, pages, changes, begins, &mut writer);
+    let mut m = Lent {
+        tags,
+        marks,
+        cells,
+        log,
+    };
+    let synced = sync::sync(&mut m, pages, changes, begins, &mut writer);
     of_synced(synced, writer.into())
 }
 

@@ -67,10 +67,10 @@ module _ (s : SyncStart) (t k c l pages : List ℕ) (cs : List Change) where
   Walked r x = WalkPromise s m pages cs r x
 
   -- a start that is refused
-  pub not_begun : (q : Refusal) (k' l' : List ℕ) → BeginPromise s lent pages (length cs) (Err q) (mem_of t k' [] l') → Walked (Err (why.Refused q)) (mem_of t k' c l')
-  not_begun q k' l' b = go tests refl
+  pub not_begun : (q : Refusal) (t' k' l' : List ℕ) → BeginPromise s lent pages (length cs) (Err q) (mem_of t' k' [] l') → Walked (Err (why.Refused q)) (mem_of t' k' c l')
+  not_begun q t' k' l' b = go tests refl
     where
-      go : (a : Answer (Unit {0})) → tests ≡ a → Walked (Err (why.Refused q)) (mem_of t k' c l')
+      go : (a : Answer (Unit {0})) → tests ≡ a → Walked (Err (why.Refused q)) (mem_of t' k' c l')
       go (given u) h = let z : refused (number_of q) ≡ start_answer (given u) (start_state n lent start) = b.0 ∙ ap (λ (x : Answer (Unit {0})). start_answer x (start_state n lent start)) (same_tests ∙ h) in absurd cc
       go (refused i) h =
           let z : refused (number_of q) ≡ start_answer (refused i) (start_state n lent start) = b.0 ∙ ap (λ (x : Answer (Unit {0})). start_answer x (start_state n lent start)) (same_tests ∙ h) in
@@ -84,16 +84,16 @@ module _ (s : SyncStart) (t k c l pages : List ℕ) (cs : List Change) where
           }
 
   -- a start that is not, and the changes after it
-  pub gone : (st : SyncState) (k' l' : List ℕ) → BeginPromise s lent pages (length cs) (Ok st) (mem_of t k' [] l')
-      → (r : Result SyncState SyncRefusal) (x : Mem) → goes_on (mem_of t k' c l') pages cs 0 st ≡ (run_said r, x) → wide_on (run_said r) cs start → Walked r x
-  gone st k' l' b r x walked wide = go tests refl
+  pub gone : (st : SyncState) (t' k' l' : List ℕ) → BeginPromise s lent pages (length cs) (Ok st) (mem_of t' k' [] l')
+      → (r : Result SyncState SyncRefusal) (x : Mem) → goes_on (mem_of t' k' c l') pages cs 0 st ≡ (run_said r, x) → wide_on (run_said r) cs start → Walked r x
+  gone st t' k' l' b r x walked wide = go tests refl
     where
       go : (a : Answer (Unit {0})) → tests ≡ a → Walked r x
       go (refused i) h = let z : given st ≡ start_answer (refused i) (start_state n lent start) = b.0 ∙ ap (λ (x : Answer (Unit {0})). start_answer x (start_state n lent start)) (same_tests ∙ h) in absurd cc
       go (given u) h =
           let z : given st ≡ start_answer (given u) (start_state n lent start) = b.0 ∙ ap (λ (x : Answer (Unit {0})). start_answer x (start_state n lent start)) (same_tests ∙ h) in
           let y : st ≡ start_state n m start = cc in
-          let e : mem_of t k' c l' ≡ start_mem m start = ap (with_cells c) b.1.0 ∙ ap (λ (x : Answer (Unit {0})). with_cells c (kept_if x lent (start_mem lent start))) (same_tests ∙ h) in
+          let e : mem_of t' k' c l' ≡ start_mem m start = ap (with_cells c) b.1.0 ∙ ap (λ (x : Answer (Unit {0})). with_cells c (kept_if x lent (start_mem lent start))) (same_tests ∙ h) in
           let same : ◌≡◌ {A = Going × Mem} (run_said r, x) (going_by there.came there.state, z') =
           sym walked ∙ ap₂ (λ (v : Mem) (w : SyncState). goes_on v pages cs 0 w) e y in
           record {

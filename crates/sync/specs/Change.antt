@@ -18,6 +18,7 @@ use Rattle.sync_parts.specs.Parts.{Named, bucket, none, named_by, tag_fits, cell
 use Rattle.sync_parts.specs.declared.Where.{Where}
 use Rattle.sync_parts.specs.declared.Where.TheVariants.{Known, Fresh as FreshPage, Cell}
 use Rattle.sync.specs.declared.Change.{Change}
+use Rattle.sync.specs.declared.Lent.{Lent}
 use Rattle.sync.specs.declared.Place.{Place}
 use Rattle.sync.specs.declared.SyncState.{SyncState}
 use Rattle.sync.specs.declared.Taken.{Taken}
@@ -31,6 +32,15 @@ pub record Mem : Type 0 where
 
 abbrev pub mem_of : List ℕ → List ℕ → List ℕ → List ℕ → Mem
 mem_of t k c l = record { tags = t; marks = k; cells = c; log = l }
+
+-- what stands in what is lent; and that the same is lent still
+abbrev pub mem_at : Lent → Mem
+mem_at m = mem_of m.tags.now m.marks.now m.cells.now m.log.now
+
+abbrev pub Same : Lent → Lent → Type 0
+Same m m' =
+    (m'.tags.ghost_name ≡ m.tags.ghost_name) × (m'.marks.ghost_name ≡ m.marks.ghost_name) ×
+    (m'.cells.ghost_name ≡ m.cells.ghost_name) × (m'.log.ghost_name ≡ m.log.ghost_name)
 
 -- the widths of a change's parts, which their types give: "id 32, diff 16"
 abbrev pub Wide : Change → Type 0

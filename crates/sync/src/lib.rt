@@ -6,7 +6,7 @@
 ghost use Rattle.std.specs.Prelude.{◌≡◌, true, [], ◌≤◌, ◌<◌, length};
 ghost use Rattle.answers.specs.Answers.{given};
 ghost use Rattle.ht_file.specs.Places.{tags_fit, bucket_page};
-ghost use Rattle.sync.specs.Change.{Wide, mem_of, where_of, place_of, by_named, does_of, StepPromise};
+ghost use Rattle.sync.specs.Change.{Wide, mem_of, mem_at, Same, where_of, place_of, by_named, does_of, StepPromise};
 ghost use Rattle.sync.specs.declared.SyncRefusal.TheVariants.{Refused};
 ghost use Rattle.sync_parts.specs.Parts.{bucket};
 ghost use Rattle.sync_parts.specs.declared.Where.TheVariants.{Known, Fresh as FreshPage, Cell};
@@ -43,6 +43,16 @@ pub struct Change {
     pub hash: u64,
     pub diff: Diff,
     pub place: Place,
+}
+
+// What a sync is lent and may change: the tags, a mark for each of their pages, the cells and the log. That it is the
+// same that is lent after a call (`same` of the contracts) tells a caller what its own slices hold then.
+#[derive(Drop)]
+pub struct Lent<'a> {
+    pub tags: &'a mut [u8],
+    pub marks: &'a mut [u8],
+    pub cells: &'a mut [u64],
+    pub log: &'a mut [u8],
 }
 
 // What a sync carries from change to change: the count of buckets, how many hits allocation may meet, where
@@ -180,25 +190,25 @@ enum Outlook {
 }
 
 // The plan, with the room for its record, and a bucket where one is to be allocated: 13, then 10 or 11.
-fn look_ahead(
-    tags: &[u8],
-    cells: &[u64],
-    log: &[u8],
-    c: Change,
-    st: SyncState,
-) -> Result<Outlook, Refusal>
-    requires { tags_fit st.n (length tags.now) ≡ true }
-    ensures { LookPromise st (mem_of tags.now [] cells.now log.now) c result }
+fn look_ahead(m: &Lent, c: Change, st: SyncState) -> Result<Outlook, Refusal>
+    requires { tags_fit st.n (length m.now.tags.now) ≡ true }
+    ensures { LookPromise st (mem_at m.now) c result }
 {
-    let planned = plan(tags, st.n, cells, c)?;
+    let planned = plan(m.tags, st.n, m.cells, c)?;
     let clearing = matches!(planned, Planned::Clears(_));
-    if !wal_write::has_room(log.len(), st.writer, sync_parts::body_of(clearing, c.diff)) {
+    if !wal_write::has_room(
+        m.log.len(),
+        st.writer,
+        sync_parts::body_of(clearing, c.diff),
+    ) {
         return Err(Refusal::NoRoom);
     }
     match planned {
         Planned::Clears(b) => Ok(Outlook::Clears(b)),
         Planned::Updates(b) => Ok(Outlook::Updates(b)),
-        Planned::Allocates => Ok(Outlook::Takes(probe::find_bucket(tags, st.n, c.hash, st.limit)?)),
+        Planned::Allocates => Ok(Outlook::Takes(probe::find_bucket(
+            m.tags, st.n, c.hash, st.limit,
+        )?)),
     }
 }
 
@@ -215,44 +225,37 @@ fn taken_at(n: usize, b: u64) -> Taken
 
 // One change: its tag, its mark, its cell and its record in the log; the state is that after it. A refused change
 // leaves all of them. The record's room was looked at, so its call is not refused.
-pub fn step(
-    tags: &mut [u8],
-    marks: &mut [u8],
-    cells: &mut [u64],
-    log: &mut [u8],
-    page: &[u8],
-    c: Change,
-    st: &mut SyncState,
-) -> Result<Taken, Refusal>
-    ensures { StepPromise st.old (mem_of tags.old marks.old cells.old log.old) page.now c result st.new (mem_of tags.new marks.new cells.new log.new) }
+pub fn step(m: &mut Lent, page: &[u8], c: Change, st: &mut SyncState) -> Result<Taken, Refusal>
+    ensures does { StepPromise st.old (mem_at m.old) page.now c result st.new (mem_at m.new) }
+    ensures same { Same m.old m.new }
 {
     let n = st.n;
-    ht_file::check_tags(n, tags.len())?;
+    ht_file::check_tags(n, m.tags.len())?;
     if page.len() != 4096 {
         return Err(Refusal::LengthUnfit);
     }
-    if marks.len() != ht_file::tag_pages(n) {
+    if m.marks.len() != ht_file::tag_pages(n) {
         return Err(Refusal::LengthUnfit);
     }
     let Writer::Open(_, _) = st.writer else {
         return Err(Refusal::WriterNotOpen);
     };
-    let ahead = look_ahead(&tags[..], &cells[..], &log[..], c, *st)?;
+    let ahead = look_ahead(m, c, *st)?;
     match ahead {
         Outlook::Clears(b) => {
-            wal_write::write_clear(log, &mut st.writer, b)?;
-            sync_parts::write_tag(tags, marks, b as usize, TOMBSTONE);
+            wal_write::write_clear(m.log, &mut st.writer, b)?;
+            sync_parts::write_tag(m.tags, m.marks, b as usize, TOMBSTONE);
             st.occupied = st.occupied.saturating_sub(1);
             Ok(taken_at(n, b))
         }
         Outlook::Updates(b) => {
-            wal_write::write_page_update(log, &mut st.writer, c.id, c.diff, page, b)?;
+            wal_write::write_page_update(m.log, &mut st.writer, c.id, c.diff, page, b)?;
             Ok(taken_at(n, b))
         }
         Outlook::Takes(b) => {
-            wal_write::write_page_update(log, &mut st.writer, c.id, c.diff, page, b)?;
-            sync_parts::write_tag(tags, marks, b as usize, meta_map::full_entry(c.hash));
-            sync_parts::set_cell(cells, c.place.into(), b);
+            wal_write::write_page_update(m.log, &mut st.writer, c.id, c.diff, page, b)?;
+            sync_parts::write_tag(m.tags, m.marks, b as usize, meta_map::full_entry(c.hash));
+            sync_parts::set_cell(m.cells, c.place.into(), b);
             st.occupied = st.occupied.saturating_add(1);
             Ok(taken_at(n, b))
         }
@@ -272,23 +275,21 @@ fn page_at(pages: &[u8], j: usize) -> &[u8]
 // Change j of a sync, whose page is the j-th of the lent pages: how the sync goes after it. One that was refused stays as
 // it is, and leaves all. What the types say of the change's parts is handed out.
 pub fn change_at(
-    tags: &mut [u8],
-    marks: &mut [u8],
-    cells: &mut [u64],
-    log: &mut [u8],
+    m: &mut Lent,
     pages: &[u8],
     c: Change,
     j: usize,
     run: Result<SyncState, SyncRefusal>,
 ) -> Result<SyncState, SyncRefusal>
-    ensures goes { ChangePromise (mem_of tags.old marks.old cells.old log.old) pages.now c j run result (mem_of tags.new marks.new cells.new log.new) }
+    ensures goes { ChangePromise (mem_at m.old) pages.now c j run result (mem_at m.new) }
+    ensures same { Same m.old m.new }
     ensures wide { Wide c }
 {
     let Ok(st) = run else {
         return run;
     };
     let mut state = st;
-    let taken = step(tags, marks, cells, log, page_at(pages, j), c, &mut state);
+    let taken = step(m, page_at(pages, j), c, &mut state);
     match taken {
         Ok(_) => Ok(state),
         Err(why) => Err(SyncRefusal::RefusedAt(j, why)),
@@ -329,21 +330,34 @@ pub fn begin_sync(
     })
 }
 
-// The start of a sync and its changes, one after another, as far as none is refused.
-fn all_changes(
+// begin_sync, for tags that a `&mut Lent` has: they are lent on by `&` here, as after a `&` of its field a proof has lost
+// what that field holds.
+fn begin_lent(
     tags: &mut [u8],
     marks: &mut [u8],
-    cells: &mut [u64],
     log: &mut [u8],
+    pages: &[u8],
+    count: usize,
+    start: SyncStart,
+) -> Result<SyncState, Refusal>
+    ensures { BeginPromise start (mem_of tags.old marks.old [] log.old) pages.now count result (mem_of tags.new marks.new [] log.new) }
+{
+    begin_sync(&tags[..], marks, log, pages, count, start)
+}
+
+// The start of a sync and its changes, one after another, as far as none is refused.
+fn all_changes(
+    m: &mut Lent,
     pages: &[u8],
     changes: &[Change],
     start: SyncStart,
 ) -> Result<SyncState, SyncRefusal>
-    ensures { WalkPromise start (mem_of tags.old marks.old cells.old log.old) pages.now changes.now result (mem_of tags.new marks.new cells.new log.new) }
+    ensures walks { WalkPromise start (mem_at m.old) pages.now changes.now result (mem_at m.new) }
+    ensures same { Same m.old m.new }
 {
-    let mut st = begin_sync(tags, marks, log, pages, changes.len(), start)?;
+    let mut st = begin_lent(m.tags, m.marks, m.log, pages, changes.len(), start)?;
     for (j, c) in changes.iter().enumerate() {
-        st = change_at(tags, marks, cells, log, pages, *c, j, Ok(st))?;
+        st = change_at(m, pages, *c, j, Ok(st))?;
     }
     Ok(st)
 }
@@ -377,17 +391,15 @@ pub fn end_sync(
 // A sync: the changes one after another, logged, between the start of the log and its end. The lent writer is left
 // as the log's; a sync that has not begun leaves it as it was.
 pub fn sync(
-    tags: &mut [u8],
-    marks: &mut [u8],
-    cells: &mut [u64],
-    log: &mut [u8],
+    m: &mut Lent,
     pages: &[u8],
     changes: &[Change],
     start: SyncStart,
     w: &mut Writer,
 ) -> Result<Synced, SyncRefusal>
-    ensures { SyncPromise start (mem_of tags.old marks.old cells.old log.old) pages.now changes.now w.old result w.new (mem_of tags.new marks.new cells.new log.new) }
+    ensures syncs { SyncPromise start (mem_at m.old) pages.now changes.now w.old result w.new (mem_at m.new) }
+    ensures same { Same m.old m.new }
 {
-    let run = all_changes(tags, marks, cells, log, pages, changes, start);
-    end_sync(log, run, w)
+    let run = all_changes(m, pages, changes, start);
+    end_sync(m.log, run, w)
 }

@@ -6,7 +6,7 @@
 
 use answers::Refusal;
 use page_diff::Diff;
-use sync::{Change, Place, SyncRefusal, SyncStart, SyncState, Synced, Taken};
+use sync::{Change, Lent, Place, SyncRefusal, SyncStart, SyncState, Synced, Taken};
 use wal::{Edition, Start, Writer};
 
 const N: usize = 4;
@@ -151,8 +151,14 @@ fn changed(
     start: SyncStart,
 ) -> Result<SyncState, SyncRefusal> {
     let mut st = sync::begin_sync(&tags[..], marks, log, pages, changes.len(), start)?;
+    let mut m = Lent {
+        tags,
+        marks,
+        cells,
+        log,
+    };
     for (j, c) in changes.iter().enumerate() {
-        st = sync::change_at(tags, marks, cells, log, pages, *c, j, Ok(st))?;
+        st = sync::change_at(&mut m, pages, *c, j, Ok(st))?;
     }
     Ok(st)
 }
@@ -373,9 +379,13 @@ fn stepped(title: &[u8], writer: Writer, c: Change) {
         writer,
         occupied: 0,
     };
-    let r = sync::step(
-        &mut tags, &mut marks, &mut cells, &mut log, &[5; 4096], c, &mut st,
-    );
+    let mut m = Lent {
+        tags: &mut tags,
+        marks: &mut marks,
+        cells: &mut cells,
+        log: &mut log,
+    };
+    let r = sync::step(&mut m, &[5; 4096], c, &mut st);
     say(title);
     say_taken(r);
     say_number(b" occupied ", st.occupied);

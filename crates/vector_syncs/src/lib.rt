@@ -6,7 +6,7 @@
 ghost use Rattle.std.specs.Prelude.{◌≡◌, ◌<◌, ◌≤◌, length};
 
 use page_diff::Diff;
-use sync::{Change, Place, SyncRefusal, SyncStart, SyncState, Synced};
+use sync::{Change, Lent, Place, SyncRefusal, SyncStart, SyncState, Synced};
 use vector_memory::{In, Words, lent, low_four, number, part, said6};
 use wal::{Edition, Writer};
 
@@ -64,8 +64,14 @@ fn changed(
 {
     let pages = part(told, 4096 * count);
     let mut st = sync::begin_sync(&tags[..], marks, log, pages, count, start)?;
+    let mut m = Lent {
+        tags,
+        marks,
+        cells,
+        log,
+    };
     for j in 0..count {
-        st = sync::change_at(tags, marks, cells, log, pages, change(told, j), j, Ok(st))?;
+        st = sync::change_at(&mut m, pages, change(told, j), j, Ok(st))?;
     }
     Ok(st)
 }
@@ -129,16 +135,13 @@ fn stepped(w: In, tags: &mut [u8], cells: &mut [u64], log: &mut [u8], told: &[u8
         occupied: w.g,
     };
     let pages = tags.len() / 4096;
-    let marks = lent(&mut marks, pages);
-    let r = sync::step(
+    let mut m = Lent {
         tags,
-        marks,
+        marks: lent(&mut marks, pages),
         cells,
         log,
-        part(told, 4096),
-        change(told, 0),
-        &mut st,
-    );
+    };
+    let r = sync::step(&mut m, part(told, 4096), change(told, 0), &mut st);
     let (kind, at) = standing(st.writer);
     match r {
         Ok(t) => said6(0, t.bucket, t.page, kind, at, st.occupied),
