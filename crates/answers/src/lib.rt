@@ -36,7 +36,7 @@ pub enum Refusal {
     AfterEndUsed,
 }
 
-// Document 01's number of a refusal.
+// Document 01's number of a refusal, under the name that docs/ANSWERS.md has for it.
 pub fn number_of(r: Refusal) -> u8
     ensures { result ≡ number_of r }
 {

@@ -30,6 +30,8 @@ pub fn put_block<const N: usize>(s: &mut [u8], at: usize, b: [u8; N])
     }
 }
 
+// Numbers of four and of eight bytes, a call of one line for each: a trait would have the same lines in its impls.
+
 // The number that the 4 bytes of s from `at` on are.
 pub fn read_u32(s: &[u8], at: usize) -> u32
     ensures { result ≡ le (block 4 s.now at) }

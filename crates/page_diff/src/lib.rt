@@ -34,7 +34,7 @@ pub struct Diff {
     pub words: [u64; 2],
 }
 
-// The nodes of the marked slots in the slots' order, with their count; zeros from the count on.
+// The nodes of the marked slots in the slots' order, with their count; zeros from the count on. It crosses to C so.
 #[repr(C)]
 #[derive(Clone, Copy)]
 pub struct Packed {
@@ -262,7 +262,7 @@ pub fn pack_into(nodes: &mut [u8], d: Diff, page: &[u8]) -> Result<u64, Refusal>
 
 // Puts packed nodes, by value with their count, back at the marked slots of a page; every other byte stays.
 // Refused: a page that is not 4,096 bytes (2), bit 126 or 127 (4), a count that is not the diff's (2). Entries
-// past the count are not looked at.
+// past the count are not looked at. (Document 01 has the table by value, with its count beside it.)
 pub fn unpack_changed_nodes(
     d: Diff,
     nodes: [[u8; 32]; 126],

@@ -19,6 +19,7 @@ use page_diff::Diff;
 use sync_parts::Where;
 use wal::{Start, Writer};
 
+// The kinds of a place, in numbers: they cross the boundary to C.
 const KNOWN: u64 = 0;
 
 const FRESH: u64 = 1;

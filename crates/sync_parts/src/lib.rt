@@ -9,7 +9,7 @@ ghost use Rattle.sync_parts.specs.Parts.{named_by, name_said, tag_fits, body_of,
 use answers::Refusal;
 use page_diff::Diff;
 
-// A cell that has no bucket yet.
+// A cell that has no bucket yet: a number, since cells are lent across the boundary to C.
 pub const UNSET: u64 = u64::MAX;
 
 // Where a page's bucket is known from: it is known; the page is new; or a cell has it, or will have it.

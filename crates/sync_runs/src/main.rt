@@ -13,6 +13,7 @@ const N: usize = 4;
 
 const SEQN: u32 = 7;
 
+// A cell without a bucket, written out apart from the code that is run.
 const UNSET: u64 = 0xffff_ffff_ffff_ffff;
 
 // The diffs' high words: no mark, the mark that nobody has, and that of a cleared page.

@@ -1,6 +1,7 @@
 // The cases on logs and what they carry, 35, 36, 40 to 48, 58 and 59 of docs/VECTORS.md: nodes packed and put
 // back; a log read, read off and written; replay, and its stops. What is answered is held to the list; what is
 // lent keeps its length.
+// An operation and a kind are numbers of the list's text: the arm beside the number is all that it means.
 #![tactic(auto)]
 
 ghost use Rattle.std.specs.Prelude.{◌≡◌, length};

@@ -1,6 +1,7 @@
 // What a case of the list of answers is given and what it answers, as words; the memories of which its calls
 // are lent parts, filled and looked at. What a call answers is held to the list (docs/VECTORS.md): promises
 // are of words, of parts, and of lengths.
+// An operation and a kind are numbers of the list's text: the arm beside the number is all that it means.
 #![tactic(auto)]
 
 ghost use Rattle.std.specs.Prelude.{◌≡◌, ◌%◌, ◌<◌, ◌≤◌, length, take, slice_index_or, slice_set};

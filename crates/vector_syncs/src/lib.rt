@@ -1,6 +1,7 @@
 // The cases on syncs, 49 and 50 of docs/VECTORS.md: a sync of up to eight changes, and one change of it. The tags
 // start memory 0; behind them stands what is told of the changes. What is answered is held to the list; what is
 // lent keeps its length.
+// An operation and a kind are numbers of the list's text: the arm beside the number is all that it means.
 #![tactic(auto)]
 
 ghost use Rattle.std.specs.Prelude.{◌≡◌, ◌<◌, ◌≤◌, length};

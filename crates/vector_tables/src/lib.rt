@@ -1,5 +1,6 @@
 // The cases on tables, 23 to 34, 37, 56 and 57 of docs/VECTORS.md: every small table swept; tags, blocks and
 // markers; growth and audit. What is answered is held to the list; what is lent keeps its length.
+// An operation and a kind are numbers of the list's text: the arm beside the number is all that it means.
 #![tactic(auto)]
 
 ghost use Rattle.std.specs.Prelude.{◌≡◌, ◌<◌, ◌≤◌, length};

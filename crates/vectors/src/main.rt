@@ -2,6 +2,7 @@
 // the original's or one worked out from document 01 apart from this code (docs/VECTORS.md). What ours answers
 // is held to it; a line that differs is told. Bytes and words that calls are lent stand in three memories,
 // which other lines fill.
+// An operation and a kind are numbers of the list's text: the arm beside the number is all that it means.
 #![tactic(auto)]
 
 ghost use Rattle.std.specs.Prelude.{◌≡◌, ◌≤◌, length};

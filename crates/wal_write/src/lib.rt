@@ -141,7 +141,7 @@ fn put_tail(log: &mut [u8], at: usize, elided: [u8; 8], bucket: u64)
 }
 
 // Writes an update with the first `held` nodes of a table by value: 12, 2 where that is not the diff's count,
-// 4, 13. Entries past the count are not looked at.
+// 4, 13. Entries past the count are not looked at. (Document 01 has the table by value, with its count beside it.)
 pub fn write_update(
     log: &mut [u8],
     w: &mut Writer,
