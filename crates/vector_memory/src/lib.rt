@@ -150,7 +150,9 @@ pub fn part<T>(s: &[T], n: usize) -> &[T]
 }
 
 // The same of a slice that is written to.
-pub fn lent<T>(s: &mut [T], n: usize) -> &mut [T] {
+pub fn lent<T>(s: &mut [T], n: usize) -> &mut [T]
+    ensures { result.now ≡ take n s.old }
+{
     let n = n.min(s.len());
     &mut s[..n]
 }
