@@ -17,6 +17,9 @@ use ht_file::PAGE_SIZE;
 
 const MARKER_LEN: usize = 16;
 
+// So many bytes of a page are copied at a time.
+const BLOCK: usize = 64;
+
 const MARKER_MAGIC: [u8; 8] = *b"NOMTRH1\0";
 
 // The bucket counts that a marker names: the table's, and those that it grows to.
@@ -96,12 +99,19 @@ pub fn pending(old: u64, new: u64, meta: u64, file_len: u64) -> Result<Decision,
     Err(Refusal::NothingPending)
 }
 
-// Copies the page that starts at `from` in one image to `at` in another; every other byte stays.
+// Copies the page that starts at `from` in one image to `at` in another; every other byte stays. It goes by blocks by
+// value: one copy from slice to slice calls `memmove`, which the library asks of nobody.
 fn copy_page(image: &mut [u8], at: usize, source: &[u8], from: usize)
     requires { (at + 4096 ≤ length image.old) × (from + 4096 ≤ length source.now) }
     ensures { image.new ≡ put image.old at (block 4096 source.now from) }
 {
-    image[at..at + PAGE_SIZE].copy_from_slice(&source[from..from + PAGE_SIZE]);
+    for i in 0..PAGE_SIZE / BLOCK {
+        blocks::put_block(
+            image,
+            at + BLOCK * i,
+            blocks::block::<BLOCK>(source, from + BLOCK * i),
+        );
+    }
 }
 
 // What old bucket b does to the new image: a full one is allocated by its hash and its page copied there;
@@ -140,10 +150,10 @@ fn rehash_to(
     requires { (image_fits old_n (length old_image.now) ≡ true) × (image_fits new_n (length new_image.old) ≡ true) × (length hashes.now ≡ old_n) }
     ensures { (answer_of result ≡ end_of tt (copied hit_limit old_image.now old_n new_n hashes.now)) × (new_image.new ≡ image_or (zeroed new_n) (copied hit_limit old_image.now old_n new_n hashes.now)) }
 {
-    new_image.fill(0);
+    blocks::zero_all(new_image);
     for (b, hash) in hashes.iter().enumerate() {
         if let Err(why) = move_bucket(old_image, old_n, b, *hash, new_image, new_n) {
-            new_image.fill(0);
+            blocks::zero_all(new_image);
             return Err(why);
         }
     }

@@ -14,7 +14,7 @@ pub loop-b-init : goal.loop-b-init
 loop-b-init c =
     let a = c.args in
     let f = image_fits_facts a.new_n (length a.new_image.now) c.requires.1 in
-    let z : c.fill.new.self ≡ zeroed a.new_n = c.fill.ensures.after (λ y e. e) ∙ ap (λ (k : ℕ). replicate k 0) f.2 in (
+    let z : c.zero_all.new.s ≡ zeroed a.new_n = c.zero_all.ensures ∙ ap (λ (k : ℕ). replicate k 0) f.2 in (
       grown_none hit_limit a.old_image.now a.old_n a.new_n a.hashes.now ∙ ap given (sym z),
       ap length z ∙ length-replicate (image_length a.new_n) 0,
     )
@@ -34,7 +34,7 @@ returns-in-Err c =
     (grown_next hit_limit a.old_image.now a.old_n a.new_n a.hashes.now b img c.loop-b.invariant.0 ∙ is_refused) in
     let long : length c.move_bucket.new.new_image ≡ image_length a.new_n = ap length (c.in-Err.ensures.1 ∙ ap (image_or img) is_refused) ∙ c.loop-b.invariant.1 in (
       sym (ap (end_of tt) e),
-      c.fill-in-Err.ensures.after (λ y e. e) ∙ ap (λ (k : ℕ). replicate k 0) long ∙ sym (ap (image_or (zeroed a.new_n)) e),
+      c.zero_all-in-Err.ensures ∙ ap (λ (k : ℕ). replicate k 0) long ∙ sym (ap (image_or (zeroed a.new_n)) e),
     )
 
 pub loop-b-preserved : goal.loop-b-preserved
