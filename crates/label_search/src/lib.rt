@@ -128,7 +128,8 @@ impl Class {
 impl Table<'_> {
     // ---- the search for a label, made only where the filters do not rule it out
 
-    // Whether a full bucket before b has b's label.
+    // Whether a full bucket before b has b's label. Never inlined: what asks for a bucket that is not full stays small.
+    #[inline(never)]
     fn search_label(&self, b: usize) -> bool
         requires { b < self.now.n }
         ensures { result ≡ labelled self.now.image.now self.now.n (page_end self.now.image.now self.now.n b) b }
@@ -280,7 +281,9 @@ impl Table<'_> {
         end
     }
 
-    // One class after the other, each up to the first doubled bucket of those before. The filters are on this function's frame.
+    // One class after the other, each up to the first doubled bucket of those before. The filters are on this function's
+    // frame, which no call takes that needs no pass.
+    #[inline(never)]
     fn first_by_passes(&self, full: u64) -> usize
         ensures { FirstDoubled self.now.image.now self.now.n result }
     {
