@@ -188,7 +188,8 @@ pub fn lines_into(log: &[u8], out: &mut [u8]) -> Result<u64, Refusal>
     let mut at = 0;
     // Each line tells where the next record stands, so there is no range to go over.
     loop {
-        match filled(log, at, &mut out[done..]) {
+        // There is room for each line, so none is refused.
+        match line_at(log, at, &mut out[done..])? {
             Line::More { len, next } => {
                 done += len;
                 at = next;
