@@ -104,14 +104,17 @@ pub fn probe_from(tags: &[u8], n: usize, hash: u64, k: u64) -> Result<Probed, Re
     Ok(Probed::Closed)
 }
 
-// Whether the 32 bytes at a place are the id; there may be fewer.
+// Whether the 32 bytes at a place are the id; there may be fewer. They are compared as an array, since the
+// code of `starts_with`, where several call it, is for any length.
 pub fn ends_in(image: &[u8], at: usize, id: [u8; 32]) -> bool
     ensures { result ≡ same_bytes (take 32 (drop at image.now)) id }
 {
-    match image.get(at..) {
-        Some(rest) => rest.starts_with(&id),
-        None => false,
+    if let Some(rest) = image.get(at..)
+        && let Some(end) = rest.first_chunk()
+    {
+        return blocks::same_block(*end, id);
     }
+    false
 }
 
 // The bucket whose page ends in the id: the first such hit, unless an empty visit comes before it.
