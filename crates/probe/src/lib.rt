@@ -7,8 +7,8 @@ ghost use Rattle.std.specs.Prelude.{◌≡◌, ◌+◌, ◌*◌, ◌%◌, ◌≤
 ghost use Rattle.answers.specs.Answers.{answer_of};
 ghost use Rattle.answers.specs.Refusals.{number_of};
 ghost use Rattle.blocks.specs.Blocks.{same_bytes};
-ghost use Rattle.probe.specs.Path.{probe_answer, lookup_answer, hit_limit, allows, no_bucket_by, allocate_answer, allocated_tags, probed_said, found_said};
-ghost use Rattle.probe.specs.InnerWalk.{stands, Stepped};
+ghost use Rattle.probe.specs.Path.{is_free, probe_answer, lookup_answer, hit_limit, allows, no_bucket_by, allocate_answer, allocated_tags, probed_said, found_said};
+ghost use Rattle.probe.specs.InnerWalk.{stands, Stepped, probed_by};
 
 use answers::Refusal;
 use ht_file::ID_AT;
@@ -78,6 +78,22 @@ impl ProbeSequence {
     }
 }
 
+// What probing on comes to at a visit whose bucket has this tag, if it stops there.
+fn probed_at(tag: u8, full: u8, bucket: u64, visit: u64) -> Option<Probed>
+    ensures { result ≡ probed_by tag full bucket visit }
+{
+    if tag == EMPTY {
+        return Some(Probed::Empty { bucket, visit });
+    }
+    if tag == TOMBSTONE {
+        return Some(Probed::Tombstone { bucket, visit });
+    }
+    if tag == full {
+        return Some(Probed::PossibleHit { bucket, visit });
+    }
+    None
+}
+
 // The first empty, tombstone or hit among the 2n visits from visit k on, k taken mod 2n.
 pub fn probe_from(tags: &[u8], n: usize, hash: u64, k: u64) -> Result<Probed, Refusal>
     ensures { probed_said result ≡ probe_answer tags.now n hash k }
@@ -90,14 +106,8 @@ pub fn probe_from(tags: &[u8], n: usize, hash: u64, k: u64) -> Result<Probed, Re
     for visit in start..end {
         let tag = tags[path.bucket];
         let bucket = path.bucket as u64;
-        if tag == EMPTY {
-            return Ok(Probed::Empty { bucket, visit });
-        }
-        if tag == TOMBSTONE {
-            return Ok(Probed::Tombstone { bucket, visit });
-        }
-        if tag == full {
-            return Ok(Probed::PossibleHit { bucket, visit });
+        if let Some(probed) = probed_at(tag, full, bucket, visit) {
+            return Ok(probed);
         }
         path.advance();
     }
@@ -162,6 +172,13 @@ fn no_bucket(limit: Option<usize>, hits: usize) -> Refusal
     Refusal::PathClosed
 }
 
+// Whether a bucket with this tag may be given.
+fn is_free(tag: u8) -> bool
+    ensures { result ≡ is_free tag }
+{
+    tag == EMPTY || tag == TOMBSTONE
+}
+
 // The bucket that allocation gives for this hash; the tags are only read.
 pub fn find_bucket(tags: &[u8], n: usize, hash: u64, limit: Option<usize>) -> Result<u64, Refusal>
     ensures { answer_of result ≡ allocate_answer limit tags.now n hash }
@@ -173,7 +190,7 @@ pub fn find_bucket(tags: &[u8], n: usize, hash: u64, limit: Option<usize>) -> Re
     for _visit in 0..2 * n {
         let bucket = path.bucket;
         let tag = tags[bucket];
-        if tag == EMPTY || tag == TOMBSTONE {
+        if is_free(tag) {
             return Ok(bucket as u64);
         }
         if tag == full {

@@ -10,12 +10,12 @@ use Rattle.meta_map.specs.Tags.{full_tag, one}
 use Rattle.probe.specs.declared.ProbeSequence.{ProbeSequence}
 use Rattle.probe.specs.InnerWalk.{Stepped}
 use Rattle.probe.specs.Path.{Limit, is_hit, free_at, allows, no_bucket_by, allocating, allocate_answer}
-use Rattle.probe.proofs.Tests.{empty_is, empty_not, tombstone_is, free_not, full_not_free}
+use Rattle.probe.proofs.Tests.{full_not_free}
 use Rattle.probe.proofs.Visits.{hits_none, hits_next}
 use Rattle.probe.proofs.Walk.{tags_room, passed_more, walk_start, walk_below, walk_ready, walk_stop, walk_next, walk_end}
 use Rattle.probe.proofs.Allocating.{hits_to, allows_none, given_at, none_free, crowded}
 use Rattle.probe.proofs.find_bucket.Invariants.{Counted}
-use Rattle.probe.proofs.find_bucket.Goals.{then-tag-full+else-not-within_limit, else-tag-full, then-tag-eq-EMPTY-via-then-tag-eq-EMPTY, then-tag-eq-EMPTY-via-else-tag-eq-EMPTY+then-tag-eq-TOMBSTONE}
+use Rattle.probe.proofs.find_bucket.Goals.{then-tag-full+else-not-within_limit, else-tag-full}
 use Rattle.probe.proofs.find_bucket.Goals as goal
 
 -- what the definition answers on tags that fit
@@ -92,24 +92,16 @@ loop-visit-preserved c =
     let b = c.loop-visit.path.bucket in
     let tag : ℕ = get_or ts b 0 in
     let inv = c.loop-visit.invariant in
-    let free : free_at ts b ≡ false = free_not tag c.if-tag-eq-EMPTY.false c.if-tag-eq-TOMBSTONE.false in
+    let free : free_at ts b ≡ false = sym c.if-is_free.ensures in
     elim c.if-tag-full.branch [
       | then-tag-full+else-not-within_limit w ↦ goes ts a.n a.hash a.limit k c.loop-visit.path c.loop-visit.hits inv b refl c.advance.new.self c.if-tag-full.hits true free (eq-eqb tag (full_tag a.hash) (w.if-tag-full.true ∙ c.full_entry-full.ensures)) w.hits-is (ap (allows a.limit) w.hits-is ∙ sym w.if-not-within_limit.ensures) (omega (arith, w.hits-is, inv.small)) c.advance.ensures
       | else-tag-full w ↦ goes ts a.n a.hash a.limit k c.loop-visit.path c.loop-visit.hits inv b refl c.advance.new.self c.if-tag-full.hits false free (ne_eqb tag (full_tag a.hash) (λ q. w.if-tag-full.false (q ∙ sym c.full_entry-full.ensures))) (w.hits-is ∙ omega arith) (ap (allows a.limit) w.hits-is ∙ inv.few) (omega (arith, w.hits-is, inv.small)) c.advance.ensures
     ]
 
-pub returns-then-tag-eq-EMPTY : goal.returns-then-tag-eq-EMPTY
-returns-then-tag-eq-EMPTY c =
+pub returns-then-is_free : goal.returns-then-is_free
+returns-then-is_free c =
     let a = c.args in
-    let ts : List ℕ = a.tags.now in
-    let b = c.loop-visit.path.bucket in
-    let tag : ℕ = get_or ts b 0 in
-    let free : free_at ts b ≡ true =
-    elim c.then-tag-eq-EMPTY.branch [
-      | then-tag-eq-EMPTY-via-then-tag-eq-EMPTY w ↦ let e = empty_is tag w.if-tag-eq-EMPTY.true in rw e
-      | then-tag-eq-EMPTY-via-else-tag-eq-EMPTY+then-tag-eq-TOMBSTONE w ↦ let e = empty_not tag w.if-tag-eq-EMPTY.false in let d = tombstone_is tag w.if-tag-eq-TOMBSTONE.true in rw (e, d)
-    ] in
-    gives ts a.n a.hash a.limit c.loop-visit._visit c.loop-visit.path c.loop-visit.hits c.loop-visit.invariant b refl c.loop-visit-test.true (table_fits _ (sym c.in_ok-check_tags.ensures)) free
+    gives a.tags.now a.n a.hash a.limit c.loop-visit._visit c.loop-visit.path c.loop-visit.hits c.loop-visit.invariant c.loop-visit.path.bucket refl c.loop-visit-test.true (table_fits _ (sym c.in_ok-check_tags.ensures)) (sym c.if-is_free.ensures)
 
 pub returns : goal.returns
 returns c =

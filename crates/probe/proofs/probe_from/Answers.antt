@@ -1,13 +1,14 @@
 -- The code stops at the first empty, tombstone or hit from the start on, or at the end. Assumes nothing.
-use Rattle.std.proofs.Common.{◌≡◌, refl, sym, arith, true, List, ℕ, ◌+◌, ◌*◌, ◌%◌, ◌≤◌, ◌<◌, length, get_or, ◌∙◌}
-use borrow.Author.Tests.{eq-eqb, ne_eqb}
+use Rattle.std.proofs.Common.{◌≡◌, refl, sym, ap, arith, Bool, true, false, cond, ◌||◌, None, Some, Ok, List, ℕ, ◌+◌, ◌*◌, ◌%◌, ◌≤◌, ◌<◌, length, get_or, ◌∙◌}
 use Rattle.answers.specs.Answers.{given}
 use Rattle.ht_file.specs.Places.{tags_fit}
 use Rattle.ht_file.proofs.Laws.{table_fits}
 use Rattle.meta_map.specs.Tags.{full_tag}
 use Rattle.probe.specs.declared.ProbeSequence.{ProbeSequence}
-use Rattle.probe.specs.Path.{Stop, stop_at, nowhere, first_stop, path_from, Probe, empty_at, tombstone_at, hit_at, closed, stops_probe, probe_saw, probing, probe_answer}
-use Rattle.probe.proofs.Tests.{empty_is, empty_not, tombstone_is, tombstone_not}
+use Rattle.probe.specs.Path.{Stop, stop_at, nowhere, first_stop, path_from, Probe, empty_at, tombstone_at, hit_at, closed, is_empty, is_tombstone, is_hit, stops_probe, probe_saw, probing, probe_answer, probed_said}
+use Rattle.probe.specs.InnerWalk.{probed_by}
+use Rattle.probe.specs.declared.Probed.{Probed}
+use Rattle.probe.specs.declared.Probed.TheVariants as probed
 use Rattle.probe.proofs.Walk.{Walking, walk_below, walk_ready, walk_stop, walk_next, walk_end}
 use Rattle.probe.proofs.probe_from.Goals as goal
 
@@ -23,6 +24,20 @@ stopped : (ts : List ℕ) (n h k v : ℕ) (p : ProbeSequence) → Walking (stops
 stopped ts n h k v p walk from within b here a fits e q =
     answered ts n h k (stop_at b v) a fits (walk_stop (stops_probe ts h) (length ts) n h (k % (2 * n)) v p walk from within b here e) q
 
+-- what the code comes to at a visit, by its three tests
+seen_by : (x y z : Bool) (b v : ℕ) (p : Probed) → cond x (Some (probed.Empty b v)) (cond y (Some (probed.Tombstone b v)) (cond z (Some (probed.PossibleHit b v)) None)) ≡ Some p
+    → (((x || y) || z) ≡ true) × (probed_said (Ok p) ≡ given (cond x (empty_at b v) (cond y (tombstone_at b v) (hit_at b v))))
+seen_by true y z b v p e = let q : p ≡ probed.Empty b v = cc in (refl, ap (λ (r : Probed). probed_said (Ok r)) q)
+seen_by false true z b v p e = let q : p ≡ probed.Tombstone b v = cc in (refl, ap (λ (r : Probed). probed_said (Ok r)) q)
+seen_by false false true b v p e = let q : p ≡ probed.PossibleHit b v = cc in (refl, ap (λ (r : Probed). probed_said (Ok r)) q)
+seen_by false false false b v p e = absurd cc
+
+unseen_by : (x y z : Bool) (b v : ℕ) → cond x (Some (probed.Empty b v)) (cond y (Some (probed.Tombstone b v)) (cond z (Some (probed.PossibleHit b v)) None)) ≡ None → ((x || y) || z) ≡ false
+unseen_by true y z b v e = absurd cc
+unseen_by false true z b v e = absurd cc
+unseen_by false false true b v e = absurd cc
+unseen_by false false false b v e = refl
+
 pub advance-requires : goal.advance-requires
 advance-requires c =
     let a = c.args in
@@ -34,38 +49,27 @@ bounds-tags-path c =
     let below = walk_below (stops_probe a.tags.now a.hash) (length a.tags.now) a.n a.hash (a.k % (2 * a.n)) c.loop-visit.visit c.loop-visit.path c.loop-visit.invariant in
     omega (arith, below.0, c.loop-visit.invariant.room)
 
-pub returns-then-tag-eq-EMPTY : goal.returns-then-tag-eq-EMPTY
-returns-then-tag-eq-EMPTY c =
+pub returns-in-Some : goal.returns-in-Some
+returns-in-Some c =
     let a = c.args in
+    let ts : List ℕ = a.tags.now in
     let b = c.loop-visit.path.bucket in
-    let e = empty_is (get_or a.tags.now b 0) c.if-tag-eq-EMPTY.true in
-    stopped a.tags.now a.n a.hash a.k c.loop-visit.visit c.loop-visit.path c.loop-visit.invariant (omega (arith, c.loop-visit.auto)) c.loop-visit-test.true b refl (empty_at b c.loop-visit.visit) (table_fits _ (sym c.in_ok-check_tags.ensures)) (rw e) (rw e)
-
-pub returns-then-tag-eq-TOMBSTONE : goal.returns-then-tag-eq-TOMBSTONE
-returns-then-tag-eq-TOMBSTONE c =
-    let a = c.args in
-    let b = c.loop-visit.path.bucket in
-    let e = empty_not (get_or a.tags.now b 0) c.if-tag-eq-EMPTY.false in
-    let d = tombstone_is (get_or a.tags.now b 0) c.if-tag-eq-TOMBSTONE.true in
-    stopped a.tags.now a.n a.hash a.k c.loop-visit.visit c.loop-visit.path c.loop-visit.invariant (omega (arith, c.loop-visit.auto)) c.loop-visit-test.true b refl (tombstone_at b c.loop-visit.visit) (table_fits _ (sym c.in_ok-check_tags.ensures)) (rw (e, d)) (rw (e, d))
-
-pub returns-then-tag-full : goal.returns-then-tag-full
-returns-then-tag-full c =
-    let a = c.args in
-    let b = c.loop-visit.path.bucket in
-    let e = empty_not (get_or a.tags.now b 0) c.if-tag-eq-EMPTY.false in
-    let d = tombstone_not (get_or a.tags.now b 0) c.if-tag-eq-TOMBSTONE.false in
-    let f = eq-eqb (get_or a.tags.now b 0) (full_tag a.hash) (c.if-tag-full.true ∙ c.full_entry-full.ensures) in
-    stopped a.tags.now a.n a.hash a.k c.loop-visit.visit c.loop-visit.path c.loop-visit.invariant (omega (arith, c.loop-visit.auto)) c.loop-visit-test.true b refl (hit_at b c.loop-visit.visit) (table_fits _ (sym c.in_ok-check_tags.ensures)) (rw (e, d, f)) (rw (e, d))
+    let v = c.loop-visit.visit in
+    let tag : ℕ = get_or ts b 0 in
+    let told : probed_by tag (full_tag a.hash) b v ≡ Some c.in-Some.probed = ap (λ (f : ℕ). probed_by tag f b v) (sym c.full_entry-full.ensures) ∙ sym c.probed_at.ensures ∙ c.in-Some.is in
+    let s = seen_by (is_empty tag) (is_tombstone tag) (is_hit a.hash tag) b v c.in-Some.probed told in
+    s.1 ∙ stopped ts a.n a.hash a.k v c.loop-visit.path c.loop-visit.invariant (omega (arith, c.loop-visit.auto)) c.loop-visit-test.true b refl (probe_saw ts (stop_at b v)) (table_fits _ (sym c.in_ok-check_tags.ensures)) s.0 refl
 
 pub loop-visit-preserved : goal.loop-visit-preserved
 loop-visit-preserved c =
     let a = c.args in
+    let ts : List ℕ = a.tags.now in
     let b = c.loop-visit.path.bucket in
-    let e = empty_not (get_or a.tags.now b 0) c.if-tag-eq-EMPTY.false in
-    let d = tombstone_not (get_or a.tags.now b 0) c.if-tag-eq-TOMBSTONE.false in
-    let f = ne_eqb (get_or a.tags.now b 0) (full_tag a.hash) (λ q. c.if-tag-full.false (q ∙ sym c.full_entry-full.ensures)) in
-    walk_next (stops_probe a.tags.now a.hash) (length a.tags.now) a.n a.hash (a.k % (2 * a.n)) c.loop-visit.visit c.loop-visit.path c.loop-visit.invariant c.advance.new.self b refl (rw (e, d, f)) c.advance.ensures
+    let v = c.loop-visit.visit in
+    let tag : ℕ = get_or ts b 0 in
+    let told : probed_by tag (full_tag a.hash) b v ≡ None = ap (λ (f : ℕ). probed_by tag f b v) (sym c.full_entry-full.ensures) ∙ sym c.probed_at.ensures ∙ c.in_default.is in
+    let s = unseen_by (is_empty tag) (is_tombstone tag) (is_hit a.hash tag) b v told in
+    walk_next (stops_probe ts a.hash) (length ts) a.n a.hash (a.k % (2 * a.n)) v c.loop-visit.path c.loop-visit.invariant c.advance.new.self b refl s c.advance.ensures
 
 pub returns : goal.returns
 returns c =
