@@ -58,7 +58,7 @@ returns-in-Some c =
     let tag : ℕ = get_or ts b 0 in
     let told : probed_by tag (full_tag a.hash) b v ≡ Some c.in-Some.probed = ap (λ (f : ℕ). probed_by tag f b v) (sym c.full_entry-full.ensures) ∙ sym c.probed_at.ensures ∙ c.in-Some.is in
     let s = seen_by (is_empty tag) (is_tombstone tag) (is_hit a.hash tag) b v c.in-Some.probed told in
-    s.1 ∙ stopped ts a.n a.hash a.k v c.loop-visit.path c.loop-visit.invariant (omega (arith, c.loop-visit.auto)) c.loop-visit-test.true b refl (probe_saw ts (stop_at b v)) (table_fits _ (sym c.in_ok-check_tags.ensures)) s.0 refl
+    s.1 ∙ stopped ts a.n a.hash a.k v c.loop-visit.path c.loop-visit.invariant (omega (arith, c.loop-visit.auto)) (omega (arith, c.loop-visit-test.true)) b refl (probe_saw ts (stop_at b v)) (table_fits _ (sym c.in_ok-check_tags.ensures)) s.0 refl
 
 pub loop-visit-preserved : goal.loop-visit-preserved
 loop-visit-preserved c =
