@@ -14,7 +14,7 @@ ghost use Rattle.wal.specs.Log.{update_body};
 ghost use Rattle.wal.specs.Reader.{diff_at, nodes_from};
 ghost use Rattle.wal.specs.declared.AfterEnd.TheVariants.{Tolerant};
 ghost use Rattle.recover.specs.Places.{replayed};
-ghost use Rattle.recover.specs.Replay.{of_store, check_answer, after_start, step_answer, step_image, replay_tests, replay_answer, replay_image, steps_of, stepped_said, recovered_said};
+ghost use Rattle.recover.specs.Replay.{of_store, hashes_fit, check_answer, after_start, step_answer, step_image, replay_tests, replay_answer, replay_image, steps_of, stepped_said, recovered_said};
 ghost use Rattle.recover.specs.InnerPage.{page_by};
 
 use answers::Refusal;
@@ -70,10 +70,7 @@ fn check_log(log: &[u8], n: usize, hashes: usize, rule: AfterEnd) -> Result<(), 
                 next,
             } = head
             else {
-                if hashes != updates {
-                    return Err(Refusal::LengthUnfit);
-                }
-                return Ok(());
+                return check_hashes(hashes, updates);
             };
             if n as u64 <= bucket {
                 return Err(Refusal::BucketOutside);
@@ -82,6 +79,16 @@ fn check_log(log: &[u8], n: usize, hashes: usize, rule: AfterEnd) -> Result<(), 
             at = next;
         }
     }
+}
+
+// Whether there are as many hashes as the log has updates.
+fn check_hashes(hashes: usize, updates: usize) -> Result<(), Refusal>
+    ensures { answer_of result ≡ hashes_fit hashes updates }
+{
+    if hashes != updates {
+        return Err(Refusal::LengthUnfit);
+    }
+    Ok(())
 }
 
 // Writes a tag, lent alone.

@@ -1,6 +1,5 @@
 -- What is left of the log answers what the whole does; each entry moves the position on. Assumes nothing.
 use Rattle.std.proofs.Common.{rules, arith, ◌≡◌, ◌+◌, ◌≤◌, ◌<◌, ℕ, sym, ap, ◌∙◌, subst}
-use borrow.Author.Tests.{eq-eqb, ne_eqb}
 use Rattle.answers.specs.Answers.{refused}
 use Rattle.answers.specs.Refusals.{number_of}
 use Rattle.wal.specs.Log.{clear, mark_size}
@@ -89,16 +88,9 @@ loop-head-preserved c =
           (subst (λ (b : ℕ). b < a.n) (sym (there_bucket a.rule ed a.log.now l.at _ _ _ t)) c.if-n-bucket-2.false) (omega (arith, t.after, mark_some ed)));
     }
 
-pub returns-then-hashes-updates : goal.returns-then-hashes-updates
-returns-then-hashes-updates c =
-    let a = c.args in
-    let l = c.loop-head in
-    sym (check_end a.rule a.n a.log.now l.at l.updates l.invariant.state a.hashes (end_read a.rule _ _ a.log.now l.at c.in_ok-head.head c.in_ok-head.ensures l.invariant.by (is_end c.in_ok-head.head c.in_default.not-Clear c.in_default-head.not-Update))
-    ∙ simp (ne_eqb a.hashes l.updates c.if-hashes-updates.true))
-
 pub returns-in_default-head : goal.returns-in_default-head
 returns-in_default-head c =
     let a = c.args in
     let l = c.loop-head in
-    sym (check_end a.rule a.n a.log.now l.at l.updates l.invariant.state a.hashes (end_read a.rule _ _ a.log.now l.at c.in_ok-head.head c.in_ok-head.ensures l.invariant.by (is_end c.in_ok-head.head c.in_default.not-Clear c.in_default-head.not-Update))
-    ∙ simp (eq-eqb a.hashes l.updates c.if-hashes-updates.false))
+    c.check_hashes.ensures
+    ∙ sym (check_end a.rule a.n a.log.now l.at l.updates l.invariant.state a.hashes (end_read a.rule _ _ a.log.now l.at c.in_ok-head.head c.in_ok-head.ensures l.invariant.by (is_end c.in_ok-head.head c.in_default.not-Clear c.in_default-head.not-Update)))
