@@ -94,6 +94,7 @@ pub fn writer_at(w: Writer) -> u64
 }
 
 // The values of an audit that passes, zeros of one that does not.
+#[tactic(auto, using(crate::proofs::Told::told))]
 pub fn audit_values(a: Result<Audit, Refusal>) -> Audit
     ensures { result ≡ audit_values (answer_of a) }
 {
