@@ -1,5 +1,6 @@
 pub mod NextLaws
 pub mod Nodes
+pub mod UpdateLaws
 pub mod ReadLaws
 pub mod Answered
 pub mod Readers
