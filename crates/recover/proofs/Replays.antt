@@ -7,8 +7,9 @@ use native.Mathlib.Omega.{arith}
 use lib.Dec.{eqb}
 use lib.ListN.{length}
 use borrow.Author.Tests.{eq-eqb, ne_eqb}
-use Rattle.std.specs.Prelude.{Ok}
+use Rattle.std.specs.Prelude.{Result, Ok, Err}
 use Rattle.answers.specs.Answers.{Answer, given, refused}
+use Rattle.answers.specs.declared.Refusal.{Refusal}
 use Rattle.ht_file.specs.Places.{image_fits, if_table}
 use Rattle.ht_file.proofs.Laws.{table_unfit}
 use Rattle.wal.specs.Reader.{start_of}
@@ -83,7 +84,8 @@ applied_told rule n image log want hashes ok =
     go false p z s c q e = let y : ◌≡◌ {A = ℕ} 0 1 = cc in absurd (omega arith)
 
 -- every other answer leaves the image
-pub others_leave : (did : Recovered) (image made : List ℕ) → (did ≡ R.Applied → ⊥) → image ≡ image_by (recovered_said (Ok did)) image made
-others_leave R.Nothing image made o = refl
-others_leave R.Stale image made o = refl
-others_leave R.Applied image made o = absurd (o refl)
+pub others_leave : (r : Result Recovered Refusal) (image made : List ℕ) → (r ≡ Ok R.Applied → ⊥) → image ≡ image_by (recovered_said r) image made
+others_leave (Ok R.Nothing) image made o = refl
+others_leave (Ok R.Stale) image made o = refl
+others_leave (Ok R.Applied) image made o = absurd (o refl)
+others_leave (Err k) image made o = refl
