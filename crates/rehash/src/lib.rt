@@ -17,9 +17,6 @@ use ht_file::PAGE_SIZE;
 
 const MARKER_LEN: usize = 16;
 
-// So many bytes of a page are copied at a time.
-const BLOCK: usize = 64;
-
 const MARKER_MAGIC: [u8; 8] = *b"NOMTRH1\0";
 
 // The bucket counts that a marker names: the table's, and those that it grows to.
@@ -99,18 +96,14 @@ pub fn pending(old: u64, new: u64, meta: u64, file_len: u64) -> Result<Decision,
     Err(Refusal::NothingPending)
 }
 
-// Copies the page that starts at `from` in one image to `at` in another; every other byte stays. It goes by blocks by
-// value: one copy from slice to slice calls `memmove`, which the library asks of nobody.
+// Copies the page that starts at `from` in one image to `at` in another; every other byte stays. It goes byte by byte: one
+// copy from slice to slice calls `memmove`, which the library asks of nobody, and blocks by value are slower.
 fn copy_page(image: &mut [u8], at: usize, source: &[u8], from: usize)
     requires { (at + 4096 ≤ length image.old) × (from + 4096 ≤ length source.now) }
     ensures { image.new ≡ put image.old at (block 4096 source.now from) }
 {
-    for i in 0..PAGE_SIZE / BLOCK {
-        blocks::put_block(
-            image,
-            at + BLOCK * i,
-            blocks::block::<BLOCK>(source, from + BLOCK * i),
-        );
+    for i in 0..PAGE_SIZE {
+        image[at + i] = source[from + i];
     }
 }
 
