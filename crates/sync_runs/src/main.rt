@@ -4,6 +4,8 @@
 // some bytes of the log. The file `stdout` is worked out from documents 01 and 02 apart from this code.
 #![tactic(auto)]
 
+ghost use Rattle.std.specs.Prelude.{◌≤◌};
+
 use answers::Refusal;
 use page_diff::Diff;
 use sync::{Change, Lent, Place, SyncRefusal, SyncStart, SyncState, Synced, Taken};
@@ -201,7 +203,9 @@ fn synced(
     synced_from(title, tags, marks, log, pages, UNSET, changes, n, start);
 }
 
-// One change on a table with these two tags first.
+// One change on a table with these two tags first. (Never inlined, as are those below that make pages: each has its memory
+// on a frame of its own.)
+#[inline(never)]
 fn one(title: &[u8], tag_0: u8, tag_1: u8, cell: u64, c: Change) {
     synced_from(
         title,
@@ -217,6 +221,7 @@ fn one(title: &[u8], tag_0: u8, tag_1: u8, cell: u64, c: Change) {
 }
 
 // One fresh page, its log of edition two: the seed's bytes stand where edition one has its first record.
+#[inline(never)]
 fn edition_two() {
     synced_from(
         b"edition two",
@@ -232,6 +237,7 @@ fn edition_two() {
 }
 
 // Two changes, each with its own page.
+#[inline(never)]
 fn two(title: &[u8], tag_0: u8, tag_1: u8, first: Change, second: Change) {
     synced(
         title,
@@ -257,44 +263,29 @@ fn no_changes() {
     );
 }
 
+// A fresh page on empty tags, with so many bytes of log and of page, on a table of n buckets.
+#[inline(never)]
+fn sized(title: &[u8], marks: &mut [u8], log_size: usize, page_size: usize, n: usize)
+    requires { (log_size ≤ 8192) × (page_size ≤ 4096) }
+{
+    let mut log = [WAS; 8192];
+    let page = [5; 4096];
+    synced(
+        title,
+        &mut [0; 4096],
+        marks,
+        &mut log[..log_size],
+        &page[..page_size],
+        &[fresh()],
+        n,
+    );
+}
+
 fn lengths_refused() {
-    let c = [fresh()];
-    synced(
-        b"pages short",
-        &mut [0; 4096],
-        &mut [WAS; 1],
-        &mut [WAS; 8192],
-        &[5; 4095],
-        &c,
-        N,
-    );
-    synced(
-        b"two marks",
-        &mut [0; 4096],
-        &mut [WAS; 2],
-        &mut [WAS; 8192],
-        &[5; 4096],
-        &c,
-        N,
-    );
-    synced(
-        b"no buckets",
-        &mut [0; 4096],
-        &mut [WAS; 1],
-        &mut [WAS; 8192],
-        &[5; 4096],
-        &c,
-        0,
-    );
-    synced(
-        b"log short",
-        &mut [0; 4096],
-        &mut [WAS; 1],
-        &mut [WAS; 4095],
-        &[5; 4096],
-        &c,
-        N,
-    );
+    sized(b"pages short", &mut [WAS; 1], 8192, 4095, N);
+    sized(b"two marks", &mut [WAS; 2], 8192, 4096, N);
+    sized(b"no buckets", &mut [WAS; 1], 8192, 4096, 0);
+    sized(b"log short", &mut [WAS; 1], 4095, 4096, N);
 }
 
 // ---- one change
