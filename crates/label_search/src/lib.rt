@@ -128,7 +128,8 @@ impl Class {
 impl Table<'_> {
     // ---- the search for a label, made only where the filters do not rule it out
 
-    // Whether a full bucket before b has b's label. Never inlined: what asks for a bucket that is not full stays small.
+    // Whether a full bucket before b has b's label. Never inlined, so that `is_doubled`, which is asked of each bucket,
+    // saves no registers for one that is not full.
     #[inline(never)]
     fn search_label(&self, b: usize) -> bool
         requires { b < self.now.n }

@@ -96,8 +96,8 @@ pub fn pending(old: u64, new: u64, meta: u64, file_len: u64) -> Result<Decision,
     Err(Refusal::NothingPending)
 }
 
-// Copies the page that starts at `from` in one image to `at` in another; every other byte stays. It goes byte by byte: one
-// copy from slice to slice calls `memmove`, which the library asks of nobody, and blocks by value are slower.
+// Copies the page that starts at `from` in one image to `at` in another; every other byte stays. It goes byte by byte:
+// `copy_from_slice` from slice to slice is a call of `memmove`, which libbitbox.a has nowhere else.
 fn copy_page(image: &mut [u8], at: usize, source: &[u8], from: usize)
     requires { (at + 4096 ≤ length image.old) × (from + 4096 ≤ length source.now) }
     ensures { image.new ≡ put image.old at (block 4096 source.now from) }

@@ -1,9 +1,8 @@
 -- Each line is put where those before it end, and the lines of any log leave room for one more. Assumes nothing.
-use Rattle.std.proofs.Common.{◌≡◌, sym, ap, ◌∙◌, arith, List, ℕ, ◌+◌, ◌-◌, ◌≤◌, length, Ok, Err}
+use Rattle.std.proofs.Common.{◌≡◌, sym, ap, ◌∙◌, arith, List, ℕ, ◌+◌, ◌-◌, ◌≤◌, length, Ok}
 use borrow.Author.Tests.{le-leb}
 use borrow.Rule.Slice.PartMut.{put_mid, mid_of}
-use Rattle.answers.specs.Answers.{given, refused}
-use Rattle.answers.specs.Refusals.{number_of}
+use Rattle.answers.specs.Answers.{given}
 use Rattle.blocks.specs.Blocks.{put}
 use Rattle.blocks.proofs.Laws.{put-length}
 use Rattle.wal_list.specs.Lines.{lines_of}
