@@ -4,8 +4,8 @@ use Rattle.std.proofs.lemmas.Grind.{common_steps}
 use Rattle.blocks.proofs.Laws.{put_fits, put_short}
 use Rattle.blocks.proofs.put_block.Goals as goal
 
-pub returns-then-s-at : goal.returns-then-s-at
-returns-then-s-at g c = grind (arith, common_steps, put_fits)
+pub returns-then-at-s : goal.returns-then-at-s
+returns-then-at-s g c = grind (arith, common_steps, put_fits)
 
-pub returns-else-at-s : goal.returns-else-at-s
-returns-else-at-s g c = grind (arith, common_steps, put_short)
+pub returns-else-s : goal.returns-else-s
+returns-else-s g c = grind (arith, common_steps, put_short)
