@@ -25,7 +25,7 @@ pub fn block<const N: usize>(s: &[u8], at: usize) -> [u8; N]
 pub fn put_block<const N: usize>(s: &mut [u8], at: usize, b: [u8; N])
     ensures { (s.new ≡ put s.old at b.entry) × (length b.entry ≡ N) }
 {
-    // (In this order the first test is one for a whole loop of calls.)
+    // The width is tested first: where a loop puts blocks, that test is made once, before it.
     if N <= s.len() && at <= s.len() - N {
         s[at..at + N].copy_from_slice(&b);
     }

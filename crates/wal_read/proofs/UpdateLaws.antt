@@ -1,4 +1,4 @@
--- What is seen of an update after its mark, by the diff that was read there. Assumes nothing.
+-- What is seen of a clear and of an update after the mark, by what was read there. Assumes nothing.
 use mathlib.Core.Path.{◌≡◌, sym, ap, ap₂, ◌∙◌}
 use mathlib.Core.Bool.{false}
 use mathlib.Core.List.{List}
@@ -10,12 +10,23 @@ use Rattle.blocks.specs.Blocks.{le, block}
 use Rattle.page_diff.specs.Diff.{count_of, reserved, read_answer, read_words}
 use Rattle.wal.specs.Log.{update_body}
 use Rattle.wal.specs.Reader.{diff_at, update_of, by_tag}
-use Rattle.wal_read.specs.Head.{Seen, an_update, a_refusal, head_of}
-use Rattle.wal_read.proofs.NextLaws.{by_reserved, by_update_cut, by_update, read_refused, read_given, read_words_lem}
+use Rattle.wal_read.specs.Head.{Seen, a_clear, an_update, a_refusal, head_of}
+use Rattle.wal_read.proofs.NextLaws.{by_clear_cut, by_clear, by_diff_cut, by_reserved, by_update_cut, by_update, read_refused, read_given, read_words_lem}
 
 -- what is seen after the mark of a tag
 abbrev pub seen : List ℕ → ℕ → ℕ → Seen
 seen log p t = head_of (by_tag t log p)
+
+-- a clear that the log cuts, and one that is whole
+pub seen_clear_cut : (log : List ℕ) (p t : ℕ) → t ≡ 3 → length log < p + 8 → a_refusal 6 ≡ head_of (by_tag t log p)
+seen_clear_cut log p t f h = sym (ap (seen log p) f ∙ ap head_of (by_clear_cut log p h))
+
+pub seen_clear : (log : List ℕ) (p t b : ℕ) → t ≡ 3 → p + 8 ≤ length log → b ≡ le (block 8 log p) → a_clear b (p + 8) ≡ head_of (by_tag t log p)
+seen_clear log p t b f h w = ap (λ (k : ℕ). a_clear k (p + 8)) w ∙ sym (ap (seen log p) f ∙ ap head_of (by_clear log p h))
+
+-- an update that the log cuts before its nodes
+pub seen_diff_cut : (log : List ℕ) (p t : ℕ) → t ≡ 4 → length log < p + 48 → a_refusal 6 ≡ head_of (by_tag t log p)
+seen_diff_cut log p t f h = sym (ap (seen log p) f ∙ ap head_of (by_diff_cut log p h))
 
 -- a diff that is refused
 pub seen_refused : (log : List ℕ) (p t k : ℕ) → refused k ≡ read_answer (block 16 log (p + 32)) → t ≡ 4 → p + 48 ≤ length log → a_refusal k ≡ head_of (by_tag t log p)

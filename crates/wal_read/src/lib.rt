@@ -117,7 +117,7 @@ fn tag_at(log: &[u8], at: usize, edition: Edition) -> Result<u8, Refusal>
 }
 
 // What stands from `body` on, after the mark of a tag, without its nodes. It looks at no byte past the record.
-#[tactic(auto, using(page_diff::proofs::SlotLaws::slots_few, crate::proofs::UpdateLaws::seen_refused, crate::proofs::UpdateLaws::seen_cut, crate::proofs::UpdateLaws::seen_update))]
+#[tactic(auto, using(page_diff::proofs::SlotLaws::slots_few, crate::proofs::UpdateLaws::seen_clear_cut, crate::proofs::UpdateLaws::seen_clear, crate::proofs::UpdateLaws::seen_diff_cut, crate::proofs::UpdateLaws::seen_refused, crate::proofs::UpdateLaws::seen_cut, crate::proofs::UpdateLaws::seen_update))]
 fn head_after(log: &[u8], body: usize, tag: u8) -> Result<Head, Refusal>
     requires { body ≤ length log.now }
     ensures { head_said result ≡ head_of (by_tag tag log.now body) }
