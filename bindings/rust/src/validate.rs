@@ -14,7 +14,8 @@ pub struct Audit {
 }
 
 /// Whether every page of a table can be found. `hashes` has one hash for each bucket; those of buckets
-/// that are not full are ignored. It takes about 260 KB of stack, by far the most of all calls here.
+/// that are not full are ignored. Where more than 64 buckets are full it takes about 260 KB of stack, by far the most of
+/// all calls here.
 ///
 /// # Errors
 ///
